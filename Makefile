@@ -28,13 +28,13 @@ WORKBENCH = $(call files,workbench.html share/workbench.html)
 
 # The files that are copied, from this folder, and for each its folder: FILE=FOLDER
 files = $(patsubst $(HERE)%,%,$(wildcard $(addprefix $(HERE),$(1))))
-PLACED = $(foreach it,README.md CHANGELOG.md $(call files,PROVED-BY.txt),$(it)=$(docdir)) \
+PLACED = $(foreach it,README.md CHANGELOG.md CONTRIBUTING.md $(call files,PROVED-BY.txt),$(it)=$(docdir)) \
     $(foreach it,$(call files,docs/*.*),$(it)=$(docdir)/docs) \
+    $(foreach it,$(call files,docs/embedding/*.*),$(it)=$(docdir)/docs/embedding) \
     $(foreach it,$(call files,examples/*.*),$(it)=$(docdir)/examples) \
     $(foreach it,$(call files,teaching/*.*),$(it)=$(docdir)/teaching) \
     $(foreach it,$(call files,teaching/benches/*.*),$(it)=$(docdir)/teaching/benches) \
     $(foreach it,$(call files,share/man/*.[1-8]),$(it)=$(mandir)/man$(patsubst .%,%,$(suffix $(it)))) \
-    $(foreach it,$(call files,share/maps/*.toml),$(it)=$(datarootdir)/agc/maps) \
     share/completions/agc_watch.bash=$(BASH) share/completions/_agc_watch=$(ZSH) \
     $(foreach it,$(docdir) $(datarootdir)/agc,$(WORKBENCH)=$(it))
 
@@ -59,7 +59,7 @@ uninstall:
 	@for it in $(NAMES); do rm -f '$(DESTDIR)$(bindir)/'$$it; done
 	@for it in $(PLACED); do rm -f '$(DESTDIR)'$${it#*=}/$$(basename $${it%%=*}); done
 	rm -f '$(DESTDIR)$(BASH)/agc_watch'
-	@for it in '$(docdir)/docs' '$(docdir)/examples' '$(docdir)/teaching/benches' \
-	    '$(docdir)/teaching' '$(docdir)' '$(datarootdir)/agc/maps' '$(datarootdir)/agc'; \
+	@for it in '$(docdir)/docs/embedding' '$(docdir)/docs' '$(docdir)/examples' '$(docdir)/teaching/benches' \
+	    '$(docdir)/teaching' '$(docdir)' '$(datarootdir)/agc'; \
 	    do to='$(DESTDIR)'$$it; \
 	    if [ -d "$$to" ]; then rmdir --ignore-fail-on-non-empty "$$to"; fi; done

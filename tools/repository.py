@@ -16,6 +16,7 @@ import importlib.util
 import os
 import re
 import shutil
+import subprocess
 import sys
 
 TOP = os.path.realpath(os.path.join(os.path.dirname(os.path.realpath(__file__)), ".."))
@@ -35,6 +36,18 @@ def write(path, text):
     os.makedirs(os.path.dirname(path), exist_ok=True)
     with open(path, "w", encoding="utf-8") as file:
         file.write(text)
+
+
+def printed(words, path=os.devnull):
+    """Returns what a command prints that reads a file."""
+    with open(path, "rb") as file:
+        return subprocess.run(words, stdin=file, stdout=subprocess.PIPE, text=True, check=True).stdout.strip()
+
+
+def keep_sums(built, sources):
+    """Keeps beside it its checksum and its sources', by which tools/sources knows it and its copies, and the kit."""
+    with open(f"{built}.sums", "w", encoding="ascii") as file:
+        file.write(f"{printed(['cksum'], built)}\n{sources}\n{printed(['rt', 'version'])}\n")
 
 
 def files_below(folder, ending):

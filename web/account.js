@@ -37,11 +37,7 @@ function joined(number, name) {
   return `${number}:${[...name].slice(0, MOST_LETTERS).join("").replaceAll(" ", "_")}`;
 }
 
-/**
- * An address in a sentence: after its name, if there is one.
- * @param {string} address
- * @param {string | undefined} name
- */
+/** An address in a sentence: after its name, if there is one. @param {string} address @param {string | undefined} name */
 function named(address, name) {
   return name === undefined ? address : `${name} (${address})`;
 }
@@ -60,50 +56,32 @@ export class Names {
     }
   }
 
-  /**
-   * What a job at this address is called.
-   * @param {number} at
-   */
+  /** What a job at this address is called. @param {number} at */
   job(at) {
     return this.jobs.get(octal(at, 5));
   }
 
-  /**
-   * What a task is called.
-   * @param {{ at: number, bank: number }} task
-   */
+  /** What a task is called. @param {{ at: number, bank: number }} task */
   task({ at, bank }) {
     return this.tasks.get(`${octal(at, 5)} ${octal(bank, 5)}`);
   }
 
-  /**
-   * Where a job is, in a sentence.
-   * @param {number} at
-   */
+  /** Where a job is, in a sentence. @param {number} at */
   ofJob(at) {
     return named(octal(at, 5), this.job(at));
   }
 
-  /**
-   * A task in a sentence.
-   * @param {{ at: number, bank: number }} task
-   */
+  /** A task in a sentence. @param {{ at: number, bank: number }} task */
   ofTask(task) {
     return named(octal(task.at, 5), this.task(task));
   }
 
-  /**
-   * A job in a cell.
-   * @param {{ number: number, at: number }} job
-   */
+  /** A job in a cell. @param {{ number: number, at: number }} job */
   jobCell({ number, at }) {
     return joined(String(number), this.job(at));
   }
 
-  /**
-   * A task in a cell.
-   * @param {{ at: number, bank: number }} task
-   */
+  /** A task in a cell. @param {{ at: number, bank: number }} task */
   taskCell(task) {
     return joined(octal(task.at, 5), this.task(task));
   }
@@ -142,13 +120,7 @@ function raisedBy(run, { step, row }, names) {
   return [[`It was asked in the tick of request ${row}, by ${told}.`]];
 }
 
-/**
- * Who holds the table that was full.
- * @param {import("./run.js").Run} run
- * @param {Shown} shown
- * @param {Names} names
- * @returns {Piece[][]}
- */
+/** Who holds the table that was full. @param {import("./run.js").Run} run @param {Shown} shown @param {Names} names @returns {Piece[][]} */
 function holders(run, { step, scene, jobsSince, tasksSince }, names) {
   if (step === null) return [];
   if (step.number === 0o1203) {
@@ -183,25 +155,16 @@ function balance(run, { row, era, begun, ended, step }) {
   return [` Since ${since} ${jobs}, and the computer was idle ${idle} % of the time.${end}`];
 }
 
-/**
- * The jobs and tasks that are there as an era begins.
- * @param {import("./run.js").Scene} scene
- * @param {Names} names
- */
+/** The jobs and tasks that are there as an era begins. @param {import("./run.js").Scene} scene @param {Names} names */
 function everyone({ sets, tasks }, names) {
   return [
-    ...sets.filter((it) => it !== null).map((job) =>
-      `job ${job.number}, priority ${octal(job.priority, 2)}, at ${names.ofJob(job.at)}`),
+    ...sets.flatMap((job) =>
+      (job === null ? [] : [`job ${job.number}, priority ${octal(job.priority, 2)}, at ${names.ofJob(job.at)}`])),
     ...tasks.map((it) => `task ${names.ofTask(it)} in ${it.left} cs`),
   ];
 }
 
-/**
- * What begins again with an era.
- * @param {import("./run.js").Scene} after
- * @param {Names} names
- * @returns {Piece[][]}
- */
+/** What begins again with an era. @param {import("./run.js").Scene} after @param {Names} names @returns {Piece[][]} */
 function beginsAgain(after, names) {
   const all = everyone(after, names);
   const phases = after.phases.join(" ");
@@ -225,18 +188,12 @@ function accountOfRestart({ line, scene }, names) {
   return { heading: `After the ${nameOfRestart(line)}`, lines, isAlarm: false };
 }
 
-/**
- * What a request that begins an era is called.
- * @param {string} line
- */
+/** What a request that begins an era is called. @param {string} line */
 export function nameOfRestart(line) {
   return line === "fresh" ? "fresh start" : "restart";
 }
 
-/**
- * What is to be said of a bench whose threads could take turns in several orders.
- * @param {import("./bench.js").Bench} bench
- */
+/** What is to be said of a bench whose threads could take turns in several orders. @param {import("./bench.js").Bench} bench */
 export function orderOf({ worker, device }) {
   const names = [...worker.map((_, k) => `worker ${k + 1}`),
     ...device.map(({ line }, k) => `device ${k + 1} (${line})`)];
@@ -246,11 +203,7 @@ export function orderOf({ worker, device }) {
     + `of ${first}, ${others.map((it) => `then all of ${it}`).join(", ")}.`;
 }
 
-/**
- * Why the phase words that were found as power came back can't be trusted.
- * @param {string[]} power
- * @returns {Piece[][]}
- */
+/** Why the phase words that were found as power came back can't be trusted. @param {string[]} power @returns {Piece[][]} */
 function brokenPairs(power) {
   const lines = [];
   for (let k = 0; k < 6; k++) {
@@ -297,11 +250,7 @@ function accountOfBeginning(run, shown, names, { about, count }) {
   return { heading, lines: [...said, ...lines, ...follow], isAlarm: isBroken };
 }
 
-/**
- * The beginning of an exercise whose answer is hidden.
- * @param {import("./run.js").Run} run
- * @returns {Account}
- */
+/** The beginning of an exercise whose answer is hidden. @param {import("./run.js").Run} run @returns {Account} */
 function accountOfQuestion({ bench }) {
   const isPower = bench.power !== undefined;
   const lines = [[isPower
@@ -311,32 +260,24 @@ function accountOfQuestion({ bench }) {
   return { heading: isPower ? "Power comes back" : "The beginning", lines, isAlarm: false };
 }
 
-/**
- * @param {import("./run.js").Run} run
- * @param {Shown} shown
- * @param {Names} names
- * @returns {Account}
- */
+/** @param {import("./run.js").Run} run @param {Shown} shown @param {Names} names @returns {Account} */
 function accountOfAlarm(run, shown, names) {
-  const number = /** @type {1} */ (shown.step?.number ?? 0);
-  const table = TABLES[/** @type {keyof typeof TABLES} */ (/** @type {unknown} */ (number))];
+  const number = /** @type {keyof typeof TABLES} */ (shown.step?.number ?? 0);
+  const table = TABLES[number];
   const { running } = shown.scene;
   const lines = [
     [{ text: table.text, part: table.part }, ".", ...balance(run, shown),
       running === 0 ? " No job was running." : ` Job ${running} ran.`],
+    [number === 0o1203 ? "These wait:" : "These hold them:"],
+    ...holders(run, shown, names),
     ...raisedBy(run, shown, names),
     ...(shown.after === null ? []
       : [["The tables are as they were when the alarm came."], ...beginsAgain(shown.after, names)]),
-    [number === 0o1203 ? "These wait:" : "These hold them:"],
-    ...holders(run, shown, names),
   ];
   return { heading: `Alarm ${octal(number, 4)}: why`, lines, isAlarm: true };
 }
 
-/**
- * Which job a request ended, and what that freed.
- * @param {Shown} shown
- */
+/** Which job a request ended, and what that freed. @param {Shown} shown */
 function endedSentence({ line, before }) {
   const job = before?.sets.find((it) => it !== null && it.number === before.running);
   if (line !== "end" || !job) return "";
@@ -344,11 +285,7 @@ function endedSentence({ line, before }) {
   return `Job ${job.number} ended: ${free}. `;
 }
 
-/**
- * When a task that was listed is due, and how full the Waitlist is.
- * @param {Shown} shown
- * @param {Names} names
- */
+/** When a task that was listed is due, and how full the Waitlist is. @param {Shown} shown @param {Names} names */
 function listedSentence({ line, scene }, names) {
   const [, delay, ...words] = line.split(" ");
   const [at, bank] = words.map((it) => parseInt(it, 8));
@@ -357,11 +294,7 @@ function listedSentence({ line, scene }, names) {
     + `places ${count === 1 ? "is" : "are"} in use.`;
 }
 
-/**
- * What a phase means from now on.
- * @param {import("./run.js").Run} run
- * @param {Shown} shown
- */
+/** What a phase means from now on. @param {import("./run.js").Run} run @param {Shown} shown */
 function phasedSentence({ bench }, { line }) {
   const [group, phase] = line.split(" ").slice(1).map(Number);
   if (phase === 0) return `Group ${group} is in phase 0: after a restart nothing of it begins again.`;
@@ -372,22 +305,13 @@ function phasedSentence({ bench }, { line }) {
     : `${what.join(" and ")} ${what.length === 1 ? "is" : "are"} asked for again.`}`;
 }
 
-/**
- * Where a word was stored.
- * @param {Shown} shown
- */
+/** Where a word was stored. @param {Shown} shown */
 function storedSentence({ line, scene }) {
   const [, place, word] = line.split(" ");
   return `Work word ${place} of job ${scene.running} is ${word} now: the job keeps it in its core set.`;
 }
 
-/**
- * What else a reply says.
- * @param {import("./run.js").Run} run
- * @param {Shown} shown
- * @param {Names} names
- * @returns {Piece[][]}
- */
+/** What else a reply says. @param {import("./run.js").Run} run @param {Shown} shown @param {Names} names @returns {Piece[][]} */
 function replySentence(run, shown, names) {
   const { step, kind, scene } = shown;
   const runner = scene.sets[0];
@@ -419,12 +343,7 @@ function replySentence(run, shown, names) {
   }
 }
 
-/**
- * What fired, and what came of it.
- * @param {Shown} shown
- * @param {Names} names
- * @returns {Piece[][]}
- */
+/** What fired, and what came of it. @param {Shown} shown @param {Names} names @returns {Piece[][]} */
 function firedSentences({ step, scene, before }, names) {
   if (step === null || step.fired.length === 0) return [];
   const had = new Set(before?.sets.map((it) => it?.number ?? 0));
@@ -440,14 +359,7 @@ function firedSentences({ step, scene, before }, names) {
  * @typedef {{ about: string, count: number, isHidden: boolean }} Given
  */
 
-/**
- * The account of a row.
- * @param {import("./run.js").Run} run
- * @param {Shown} shown
- * @param {Names} names
- * @param {Given} given
- * @returns {Account}
- */
+/** The account of a row. @param {import("./run.js").Run} run @param {Shown} shown @param {Names} names @param {Given} given @returns {Account} */
 export function accountOf(run, shown, names, given = { about: "", count: 0, isHidden: false }) {
   if (shown.row === 0 && given.isHidden) return accountOfQuestion(run);
   if (shown.row === 0) return accountOfBeginning(run, shown, names, given);
@@ -460,20 +372,13 @@ export function accountOf(run, shown, names, given = { about: "", count: 0, isHi
   return { heading: "What happens", lines, isAlarm: false };
 }
 
-/**
- * A time of a mission, in hours, minutes and seconds.
- * @param {number} time
- */
+/** A time of a mission, in hours, minutes and seconds. @param {number} time */
 function missionTime(time) {
   const parts = [Math.floor(time / 3600), Math.floor(time / 60) % 60, Math.floor(time) % 60];
   return parts.map((it) => String(it).padStart(2, "0")).join(":");
 }
 
-/**
- * The second of a mission at which a document's time begins, if its comment says it so:
- * `102:33:05 of the mission`.
- * @param {string} about
- */
+/** The second of a mission at which a document's time begins, if its comment says it so: `102:33:05 of the mission`. @param {string} about */
 export function missionOf(about) {
   const found = /([0-9]+):([0-9]{2}):([0-9]{2}) of the mission/.exec(about);
   return found === null ? null : Number(found[1]) * 3600 + Number(found[2]) * 60 + Number(found[3]);

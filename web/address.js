@@ -1,8 +1,8 @@
 /**
  * The address says what is shown, so that F5, Back, a copied address and a saved link bring it back:
- * `#DOCUMENT&at=ROW&see=FROM-TO&do=DATA&shown&embed`. The document is the name of an example or an
+ * `#DOCUMENT&at=ROW&see=FROM-TO&do=DATA&was=DATA&shown&embed`. The document is the name of an example or an
  * exercise, `new`, `bench=DATA`, or nothing for the one within the page. `do` has what was done to
- * the document's run: rows by hand, other numbers of the clock, another plan. Where the browser has
+ * the document's run, and `was` what was done to the run before: rows by hand, other numbers of the clock, another plan. Where the browser has
  * storage, undo and branches are kept there, as such addresses.
  *
  * @typedef {import("./run.js").Run} Run
@@ -17,6 +17,9 @@ const STORED = "agc-workbench-undo";
 /** How many steps and branches are kept over F5, and how many letters these may have. */
 export const MOST_STORED = 12;
 const MOST_LETTERS = 1_000_000;
+
+/** The run before is just what its document asks for. */
+export const AS_IT_WAS = "0";
 
 /** What an address has that can't be read. */
 export class Damaged extends Error {}
@@ -63,10 +66,10 @@ export function recipeOf(run, count) {
  * Does to a run that has just begun what was done to it before, a stretch at a time.
  * @param {Run} run
  * @param {Recipe} recipe
- * @param {{ passTime(run: Run, most: number): boolean }} clock
+ * @param {(run: Run, most: number) => boolean} passTime
  * @param {() => Promise<void>} others lets the page do what else it has to do
  */
-export async function follow(run, { parts }, clock, others) {
+export async function follow(run, { parts }, passTime, others) {
   const asked = requestsOf(run.given);
   let rested = run.count;
   /** Asks for so many, and says whether there were fewer. */
@@ -80,7 +83,7 @@ export async function follow(run, { parts }, clock, others) {
     return false;
   };
   for (const [kind, one, who] of parts) {
-    if (kind === "c") await ask(one, (most) => clock.passTime(run, most));
+    if (kind === "c") await ask(one, (most) => passTime(run, most));
     else if (kind === "y") run.ask(String(one), String(who));
     else if (kind === "s") run.change(one, one);
     else if (kind !== "d") throw new Damaged("it has a part of an unknown kind");
@@ -90,17 +93,13 @@ export async function follow(run, { parts }, clock, others) {
 
 /**
  * @typedef {{ name: string, bench: string, at: number | null, see: [number, number] | null,
- *   done: string, isShown: boolean, isEmbedded: boolean }} Address
+ *   done: string, was: string, isShown: boolean, isEmbedded: boolean }} Address
  */
 
-/**
- * Reads what stands behind `#`.
- * @param {string} mark
- * @returns {Address}
- */
+/** Reads what stands behind `#`. @param {string} mark @returns {Address} */
 export function readAddress(mark) {
   /** @type {Address} */
-  const found = { name: "", bench: "", at: null, see: null, done: "", isShown: false, isEmbedded: false };
+  const found = { name: "", bench: "", at: null, see: null, done: "", was: "", isShown: false, isEmbedded: false };
   for (const [k, part] of mark.replace(/^#/, "").split("&").entries()) {
     const [name, value] = part.includes("=") ? [part.slice(0, part.indexOf("=")), part.slice(part.indexOf("=") + 1)] : [part, ""];
     if (part === "" && k === 0) continue;
@@ -111,6 +110,7 @@ export function readAddress(mark) {
       found.see = [from, to];
     } else if (name === "bench" && value !== "") found.bench = value;
     else if (name === "do" && value !== "") found.done = value;
+    else if (name === "was" && value !== "") found.was = value;
     else if (part === "shown") found.isShown = true;
     else if (part === "embed") found.isEmbedded = true;
     else if (k === 0 && value === "" && !part.includes("=")) found.name = part;
@@ -150,11 +150,7 @@ function isPart(part, bench) {
   return kind === "y" && typeof one === "string" && typeof who === "string" && !isClock(who);
 }
 
-/**
- * What was done to a run of this bench.
- * @param {string} data
- * @param {import("./bench.js").Bench} bench
- */
+/** What was done to a run of this bench. @param {string} data @param {import("./bench.js").Bench} bench */
 export async function readRecipe(data, bench) {
   try {
     const { plan = {}, parts } = JSON.parse(await unpacked(data));
@@ -168,30 +164,32 @@ export async function readRecipe(data, bench) {
 
 /**
  * The document and what was done to it, as the first parts of an address.
- * @param {{ run: Run, count: number, mark?: string, markedAt?: string }} view
+ * @param {{ run: Run, count: number }} view
  * @param {{ name: string, text: string }[]} kept
  * @param {string} own the document within the page
+ * @param {boolean} isHidden whether it is an exercise whose answer is hidden
  */
-export async function documentMark(view, kept, own) {
+export async function documentMark(view, kept, own, isHidden = false) {
   const { run, count } = view;
   const { source } = run;
-  const state = `${count} ${source.isHidden} ${run.count}`;
-  if (view.mark !== undefined && view.markedAt === state) return view.mark;
+  const state = `${count} ${isHidden} ${run.count}`;
+  const known = marks.get(run);
+  if (known?.state === state) return known.mark;
   const named = !source.isChanged && kept.some((it) => it.name === source.exercise);
   const first = named ? source.exercise : source.document === "" ? "new"
     : source.document === own ? "" : `bench=${await packed(source.document)}`;
   const recipe = recipeOf(run, count);
   const parts = [first];
   if (recipe !== null) parts.push(`do=${await packed(JSON.stringify(recipe))}`);
-  if (source.question !== "" && !source.isHidden) parts.push("shown");
-  Object.assign(view, { mark: parts.join("&"), markedAt: state });
-  return /** @type {string} */ (view.mark);
+  if (source.question !== "" && !isHidden) parts.push("shown");
+  marks.set(run, { mark: parts.join("&"), state });
+  return parts.join("&");
 }
 
-/**
- * Keeps undo and branches, where there is storage.
- * @param {any} given
- */
+/** The marks that were worked out last. @type {WeakMap<Run, { mark: string, state: string }>} */
+const marks = new WeakMap();
+
+/** Keeps undo and branches, where there is storage. @param {any} given */
 export function store(given) {
   try {
     const text = JSON.stringify(given);

@@ -17,6 +17,7 @@
  *   steal: number | StealRow[],
  *   job: JobRow[], event: EventRow[] }} Bench
  */
+import { KEYS } from "../libagc/js/library.js";
 import { pulseOf } from "../libagc/js/machine.js";
 import { partsOf } from "./stolen.js";
 import { Unread, linesOf, readToml } from "./toml.js";
@@ -26,79 +27,25 @@ import { ACTIONS, JOBS, LISTS, PARTS, REQUESTS, STEPS, lineFault, nearest } from
 export const MOST_BYTES = 1_048_576;
 
 /**
- * @typedef {{ kind: string, low: number, high: bigint, form: string, required: boolean }} Key
- * @param {string} kind
- * @param {{ low?: number, high?: bigint, form?: string, required?: boolean }} more
- * @returns {Key}
+ * @typedef {{ kind: string, form: string, low: number, high: bigint, required: boolean }} Key
+ * @param {Record<string, Key>} keys
+ * @returns {Record<string, Key>}
  */
-function key(kind, { low = 0, high = 2n ** 63n - 1n, form = "", required = false } = {}) {
-  return { kind, low, high, form, required };
+function nameFirst({ name, ...rest }) {
+  return name === undefined ? rest : { name, ...rest };
 }
 
-const integer = (/** @type {number} */ low, /** @type {bigint} */ high, required = false) =>
-  key("integer", { low, high, required });
-const text = (/** @type {string} */ form, required = false) => key("text", { form, required });
-const some = (/** @type {string} */ form, high = 4n, required = false) =>
-  key("oneOrMore", { low: 1, high, form, required });
-const tables = (/** @type {string} */ form, high = 2n ** 63n - 1n) => key("tables", { form, high });
-const requests = key("texts", { form: "request" });
-const named = { name: text("name") };
+const levels = Object.fromEntries(Object.entries(KEYS).map(([level, it]) => [level, nameFirst(it)]));
+const { scenario, job } = levels;
 
-const TASK = {
-  ...{ at: text("address", true), bank: text("word", true) },
-  action: some("action", 4n, true),
-};
-const PHASE = {
-  ...{ group: integer(1, 6n, true), phase: integer(1, 127n, true) },
-  ...{ job: text("job"), task: text("listing") },
-};
-const SHARED = {
-  ...{ sets: integer(7, 8n), limit: integer(1, 1_000_000n), allowance: integer(0, 2n ** 63n - 1n) },
-  ...{ key: some("action"), radar: some("action") },
-  power: key("texts", { low: 12, high: 12n, form: "word" }),
-};
-
-/** The keys of each kind of table. */
+/** The keys of each kind of table, and of three the values that only their readers know. @type {Record<string, Record<string, Key>>} */
 export const LEVELS = {
-  bench: {
-    ...{ ...SHARED, attends: integer(0, 1000n), script: requests, task: tables("task") },
-    ...{ phase: tables("phase"), worker: tables("worker", 32n), device: tables("device", 32n) },
-  },
-  scenario: {
-    ...{ seconds: integer(1, 86_400n, true), title: text("name"), seed: integer(1, 2_147_483_646n) },
-    ...{ ...SHARED, steal: key("steal") },
-    ...{ job: tables("job", 100n), event: tables("event", 1000n) },
-    ...{ task: tables("namedTask"), phase: tables("namedPhase") },
-  },
-  task: TASK,
-  phase: PHASE,
-  namedTask: { ...named, ...TASK },
-  namedPhase: { ...named, ...PHASE },
-  worker: { script: key("texts", { form: "request", required: true }) },
-  device: { line: text("device", true), pulses: integer(0, 1_000_000n, true) },
-  job: {
-    ...{ ...named, at: text("address", true), cost: key("cost", { required: true }) },
-    ...{ then: some("then", 8n), deadline: integer(1, 8_640_000n) },
-  },
-  cost: { from: integer(1, 1_000_000n, true), to: integer(1, 1_000_000n, true) },
-  event: {
-    ...{ ...named, at: integer(0, 8_640_000n, true), after: text("name") },
-    do: some("request", 16n, true),
-    ...{ every: integer(1, 8_640_000n), until: integer(0, 8_640_000n) },
-  },
-  steal: {
-    ...{ from: integer(0, 8_640_000n, true), to: integer(0, 8_640_000n, true) },
-    ...{ percent: integer(0, 100n, true) },
-    ...{ every: integer(1, 8_640_000n), until: integer(0, 8_640_000n) },
-  },
+  ...levels,
+  scenario: { ...scenario, steal: { ...scenario.steal, kind: "steal" } },
+  job: { ...job, cost: { ...job.cost, kind: "cost" }, then: { ...job.then, form: "then" } },
 };
 
-/**
- * What is wrong with a text of this form; nothing where it is one.
- * @param {string} form
- * @param {string} given
- * @returns {string | null}
- */
+/** What is wrong with a text of this form; nothing where it is one. @param {string} form @param {string} given @returns {string | null} */
 export function textFault(form, given) {
   const lines = { request: REQUESTS, action: ACTIONS, job: JOBS, listing: LISTS, step: STEPS };
   if (form in lines) return lineFault(given, lines[/** @type {keyof typeof lines} */ (form)]);
@@ -116,19 +63,13 @@ export function textFault(form, given) {
 
 /** Where something is in a document. */
 class Place {
-  /**
-   * @param {number} line
-   * @param {string} path
-   */
+  /** @param {number} line @param {string} path */
   constructor(line, path) {
     this.line = line;
     this.path = path;
   }
 
-  /**
-   * @param {string} reason
-   * @returns {never}
-   */
+  /** @param {string} reason @returns {never} */
   refuse(reason) {
     throw new Unread(this.line, this.path === "" ? reason : `${this.path}: ${reason}`);
   }
@@ -139,11 +80,7 @@ class Place {
   }
 }
 
-/**
- * @param {any} given
- * @param {Key} row
- * @param {Place} place
- */
+/** @param {any} given @param {Key} row @param {Place} place */
 function integerOf(given, row, place) {
   const between = `${row.low} ${row.high === BigInt(row.low) + 1n ? "or" : "to"} ${row.high}`;
   if (typeof given !== "bigint" || given < BigInt(row.low) || given > row.high) {
@@ -152,12 +89,7 @@ function integerOf(given, row, place) {
   return row.high > 2n ** 53n ? given : Number(given);
 }
 
-/**
- * @param {any} given
- * @param {Key} row
- * @param {Place} place
- * @returns {string}
- */
+/** @param {any} given @param {Key} row @param {Place} place @returns {string} */
 function textOf(given, row, place) {
   if (typeof given !== "string") place.refuse("expected a string");
   const fault = textFault(row.form, given);
@@ -165,11 +97,7 @@ function textOf(given, row, place) {
   return given;
 }
 
-/**
- * @param {any} given
- * @param {Key} row
- * @param {Place} place
- */
+/** @param {any} given @param {Key} row @param {Place} place */
 function textsOf(given, row, place) {
   const items = row.kind === "oneOrMore" && typeof given === "string" ? [given] : given;
   if (!Array.isArray(items)) place.refuse("expected an array of strings");
@@ -188,11 +116,7 @@ function textsOf(given, row, place) {
   });
 }
 
-/**
- * @param {any} given
- * @param {Key} row
- * @param {Place} place
- */
+/** @param {any} given @param {Key} row @param {Place} place */
 function tablesOf(given, row, place) {
   const isTables = Array.isArray(given) && given.every((it) => it.keys instanceof Map);
   if (!isTables) place.refuse(`expected an array of tables, each below its line [[${place.path}]]`);
@@ -201,11 +125,7 @@ function tablesOf(given, row, place) {
     tableOf(it, row.form, new Place(it.line, `${place.path} ${k + 1}`)));
 }
 
-/**
- * What a job costs: always as much, or by lot.
- * @param {any} given
- * @param {Place} place
- */
+/** What a job costs: always as much, or by lot. @param {any} given @param {Place} place */
 function costOf(given, place) {
   if (given?.keys instanceof Map) {
     const cost = tableOf(given, "cost", place);
@@ -215,59 +135,53 @@ function costOf(given, place) {
   if (typeof given !== "bigint") {
     place.refuse('expected an integer, 1 to 1000000, or a table of "from" and "to"');
   }
-  return integerOf(given, integer(1, 1_000_000n), place);
+  return integerOf(given, KEYS.job.cost, place);
 }
 
-/**
- * The value of a key.
- * @param {any} given
- * @param {Key} row
- * @param {Place} place
- */
+/** The value of a key. @param {any} given @param {Key} row @param {Place} place */
 function valueOf(given, row, place) {
   switch (row.kind) {
     case "integer": return integerOf(given, row, place);
     case "text": return textOf(given, row, place);
     case "tables": return tablesOf(given, row, place);
     case "steal":
-      return typeof given === "bigint" ? integerOf(given, integer(0, 100n), place)
-        : tablesOf(given, tables("steal", 100n), place);
+      return typeof given === "bigint" ? integerOf(given, row, place)
+        : tablesOf(given, { ...row, form: "steal" }, place);
     case "cost": return costOf(given, place);
     default: return textsOf(given, row, place);
   }
 }
 
-/**
- * What is said of a key that is unknown in a table of this level.
- * @param {string} name
- * @param {string} level
- */
+/** Words of which another one may be the key that is meant. */
+const ALIKE = [["do", "action", "actions", "then", "request", "requests"], ["at", "time", "start", "offset", "address", "when"],
+  ["every", "period", "interval"], ["cost", "wcet", "needs", "duration"], ["seconds", "duration", "length"], ["until", "end", "to"],
+  ["deadline", "due"], ["steal", "stolen"], ["percent", "steal", "stolen"]];
+
+/** What a table of each level is called in a sentence. @type {Record<string, string>} */
+const CALLED = { task: "a task", namedTask: "a task", phase: "a phase", namedPhase: "a phase", worker: "a worker", device: "a device", job: "a job",
+  event: "an event", steal: "a row of stolen time", cost: "a cost" };
+
+/** What is said of a key that is unknown in a table of this level. @param {string} name @param {string} level */
 function aboutKey(name, level) {
   const isIn = (/** @type {"bench" | "scenario"} */ other) => Object.hasOwn(LEVELS[other], name);
-  const meant = nearest(name, Object.keys(LEVELS[/** @type {keyof typeof LEVELS} */ (level)]));
+  const keys = Object.keys(LEVELS[/** @type {keyof typeof LEVELS} */ (level)]);
+  const meant = nearest(name, keys) ?? keys.find((key) => ALIKE.some((it) => it.includes(key) && it.includes(name)));
   if (level === "bench" && isIn("scenario")) return '; a scenario has it, which has "seconds" too';
   if (level === "scenario" && isIn("bench")) return "; a bench has it, but no scenario";
   if (level !== "bench" && level !== "scenario" && (isIn("bench") || isIn("scenario"))) {
     return "; it belongs above all tables";
   }
-  return meant === undefined ? "" : `; did you mean "${meant}"?`;
+  const where = level in CALLED ? ` in ${CALLED[level]}` : "";
+  return `${where}${meant === undefined ? "." : `; did you mean "${meant}"?`} Known: ${keys.join(", ")}`;
 }
 
-/**
- * Whether a document is a scenario: it has seconds, or a key that nearly is that.
- * @param {import("./toml.js").Table} table
- */
+/** Whether a document is a scenario: it has seconds, or a key that nearly is that. @param {import("./toml.js").Table} table */
 function isScenario({ keys }) {
   return [...keys.keys()].some((it) => it === "seconds"
     || (!Object.hasOwn(LEVELS.bench, it) && nearest(it, ["seconds"]) !== undefined));
 }
 
-/**
- * The values of a table of this level.
- * @param {import("./toml.js").Table} table
- * @param {string} level
- * @param {Place} place
- */
+/** The values of a table of this level. @param {import("./toml.js").Table} table @param {string} level @param {Place} place */
 function tableOf(table, level, place) {
   /** @type {Record<string, Key>} */
   const rows = LEVELS[/** @type {keyof typeof LEVELS} */ (level)];
@@ -296,20 +210,13 @@ export function emptyBench() {
   return bench;
 }
 
-/**
- * What a document has whose keys are left out: a scenario has room for all that its clock asks.
- * @param {string} level
- */
+/** What a document has whose keys are left out: a scenario has room for all that its clock asks. @param {string} level */
 export function leftOut(level) {
-  const ample = { limit: 1_000_000, allowance: 2n ** 63n - 1n };
+  const ample = { limit: Number(KEYS.bench.limit.high), allowance: KEYS.bench.allowance.high };
   return { ...emptyBench(), ...(level === "scenario" ? ample : {}) };
 }
 
-/**
- * Each row of stolen time ends after it begins, and before it comes again; and those that come only
- * once may not overlap.
- * @param {Bench} bench
- */
+/** Each row of stolen time ends after it begins, and before it comes again; and those that come only once may not overlap. @param {Bench} bench */
 function checkSteal({ steal }) {
   if (typeof steal === "number") return;
   const place = new Place(1, "steal");
@@ -321,10 +228,7 @@ function checkSteal({ steal }) {
   if (once.some((it, k) => k > 0 && it.from < once[k - 1].to)) place.refuse("two rows overlap");
 }
 
-/**
- * A cost by lot needs a seed.
- * @param {Bench} bench
- */
+/** A cost by lot needs a seed. @param {Bench} bench */
 function checkLots({ seed, job }) {
   const byLot = job.findIndex(({ cost }) => typeof cost !== "number" && cost.from < cost.to);
   if (seed === undefined && byLot !== -1) {
@@ -336,19 +240,12 @@ function checkLots({ seed, job }) {
 /** The alarms from which an event may count, where no event above it has that name. */
 const ALARMS = new Set(["1201", "1202", "1203"]);
 
-/**
- * Whether what an event names is there: one of these events above it, or an alarm.
- * @param {string | undefined} after
- * @param {EventRow[]} above
- */
+/** Whether what an event names is there: one of these events above it, or an alarm. @param {string | undefined} after @param {EventRow[]} above */
 export function hasBase(after, above) {
   return after === undefined || above.some((it) => it.name === after) || ALARMS.has(after);
 }
 
-/**
- * An event counts from one above it, or from an alarm.
- * @param {Bench} bench
- */
+/** An event counts from one above it, or from an alarm. @param {Bench} bench */
 function checkAfter({ event }) {
   const none = event.findIndex(({ after }, k) => !hasBase(after, event.slice(0, k)));
   if (none !== -1) {
@@ -356,11 +253,7 @@ function checkAfter({ event }) {
   }
 }
 
-/**
- * The bench or scenario of a document.
- * @param {string} document
- * @returns {Bench}
- */
+/** The bench or scenario of a document. @param {string} document @returns {Bench} */
 export function readBench(document) {
   if (new TextEncoder().encode(document).length > MOST_BYTES) {
     throw new Unread(1, `the document has more than ${MOST_BYTES} bytes`);
@@ -375,11 +268,7 @@ export function readBench(document) {
   return bench;
 }
 
-/**
- * Each request of a bench, in the order of `serial`, and who asks for it.
- * @param {Bench} bench
- * @returns {Generator<[string, string]>}
- */
+/** Each request of a bench, in the order of `serial`, and who asks for it. @param {Bench} bench @returns {Generator<[string, string]>} */
 export function* requestsOf(bench) {
   for (const line of bench.script) yield [line, "the script"];
   for (const [k, { script }] of bench.worker.entries()) {
@@ -393,10 +282,7 @@ export function* requestsOf(bench) {
   }
 }
 
-/**
- * How many requests a bench asks for.
- * @param {Bench} bench
- */
+/** How many requests a bench asks for. @param {Bench} bench */
 export function countOf(bench) {
   const { script, worker, device } = bench;
   const pulses = device.map((it) => it.pulses * pulseOf(it.line, bench).length);
@@ -409,10 +295,7 @@ function quoted(given) {
   return `"${given.replace(/[\\"]/g, "\\$&")}"`;
 }
 
-/**
- * Texts as an array, several in a line.
- * @param {string[]} items
- */
+/** Texts as an array, several in a line. @param {string[]} items */
 function arrayText(items) {
   const lines = [];
   let line = "   ";
@@ -427,21 +310,13 @@ function arrayText(items) {
   return `[\n${[...lines, line].join("\n")}\n]`;
 }
 
-/**
- * A table in one line.
- * @param {any} table
- * @returns {string}
- */
+/** A table in one line. @param {any} table @returns {string} */
 function inlineText(table) {
   const pairs = Object.entries(table).map(([name, one]) => `${name} = ${valueText(one)}`);
   return `{ ${pairs.join(", ")} }`;
 }
 
-/**
- * A value as a document has it.
- * @param {any} value
- * @returns {string}
- */
+/** A value as a document has it. @param {any} value @returns {string} */
 function valueText(value) {
   if (typeof value === "number" || typeof value === "bigint") return String(value);
   if (typeof value === "string") return quoted(value);
@@ -452,10 +327,7 @@ function valueText(value) {
   return arrayText(value);
 }
 
-/**
- * The document of a bench: keys that are as if they were missing are left out.
- * @param {Bench} bench
- */
+/** The document of a bench: keys that are as if they were missing are left out. @param {Bench} bench */
 export function writeBench(bench) {
   const kind = bench.seconds === undefined ? "bench" : "scenario";
   const level = LEVELS[kind];

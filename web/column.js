@@ -8,10 +8,7 @@ export class Column {
     this.items = new kind(64);
   }
 
-  /**
-   * @param {number} at
-   * @param {number} value
-   */
+  /** @param {number} at @param {number} value */
   set(at, value) {
     if (at >= this.items.length) {
       const longer = new this.kind(4 * this.items.length);
@@ -21,10 +18,7 @@ export class Column {
     this.items[at] = value;
   }
 
-  /**
-   * The first numbers, as a column of its own.
-   * @param {number} count
-   */
+  /** The first numbers, as a column of its own. @param {number} count */
   front(count) {
     const made = new Column(this.kind);
     const items = new this.kind(Math.max(64, count + (count >> 2)));

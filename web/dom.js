@@ -1,23 +1,13 @@
 /** Elements of the page: finding, making and filling them. All text is set as text. */
 
-/**
- * The element of this name.
- * @param {string} id
- * @returns {any}
- */
+/** The element of this name. @param {string} id @returns {any} */
 export function by(id) {
   const found = document.getElementById(id);
   if (found === null) throw new Error(`the page has no ${id}`);
   return found;
 }
 
-/**
- * A new element. What isn't a property is an attribute.
- * @param {string} name
- * @param {Record<string, any>} given
- * @param {...(Node | string)} children
- * @returns {any}
- */
+/** A new element. What isn't a property is an attribute. @param {string} name @param {Record<string, any>} given @param {...(Node | string)} children @returns {any} */
 export function make(name, given = {}, ...children) {
   const made = document.createElement(name);
   for (const [key, value] of Object.entries(given)) {
@@ -31,57 +21,40 @@ export function make(name, given = {}, ...children) {
   return made;
 }
 
-/**
- * The parts of a text: code is between backquotes, and what is emphasized, between asterisks.
- * @param {string} text
- * @returns {(Node | string)[]}
- */
+/** An element's text: only another one is written. @param {any} node @param {string} text */
+export function set(node, text) {
+  if (node.textContent !== text) node.textContent = text;
+}
+
+/** An attribute: only another one is written. Null takes it away. @param {any} node @param {string} name @param {string | null} value */
+export function attribute(node, name, value) {
+  if (node.getAttribute(name) === value) return;
+  if (value === null) node.removeAttribute(name);
+  else node.setAttribute(name, value);
+}
+
+/** Some of an element's properties, as `hidden` or `className`: only others are written. @param {any} node @param {Record<string, any>} given */
+export function assign(node, given) {
+  for (const [name, value] of Object.entries(given)) if (node[name] !== value) node[name] = value;
+}
+
+/** The parts of a text: code is between backquotes, and what is emphasized, between asterisks. @param {string} text @returns {(Node | string)[]} */
 export function withCode(text) {
   return text.split("`").flatMap((it, k) => (k % 2 === 1 ? [make("code", {}, it)]
     : it.split(/\*([^*]+)\*/).map((one, n) => (n % 2 === 1 ? make("em", {}, one) : one))));
 }
 
-/**
- * Gives an element just these children.
- * @param {string | HTMLElement} where
- * @param {(Node | string)[]} children
- */
+/** Gives an element just these children. @param {string | HTMLElement} where @param {(Node | string)[]} children */
 export function fill(where, children) {
-  const parent = typeof where === "string" ? by(where) : where;
-  parent.replaceChildren(...children);
+  (typeof where === "string" ? by(where) : where).replaceChildren(...children);
 }
 
-/**
- * A button that does something.
- * @param {string} text
- * @param {() => void} run
- * @param {Record<string, any>} given
- */
+/** A button that does something. @param {string} text @param {() => void} run @param {Record<string, any>} given */
 export function button(text, run, given = {}) {
   return make("button", { type: "button", onclick: run, ...given }, text);
 }
 
-/**
- * A field with its label before it.
- * @param {string} text
- * @param {HTMLElement} field
- */
+/** A field with its label before it. @param {string} text @param {HTMLElement} field */
 export function labelled(text, field) {
   return make("label", {}, text, field);
-}
-
-/**
- * Opens the dialog with a heading and these children.
- * @param {string} heading
- * @param {(Node | string)[]} children
- */
-export function openDialog(heading, children) {
-  by("dialog-name").textContent = heading;
-  fill("dialog-body", children);
-  if (!by("dialog").open) by("dialog").showModal();
-  by("dialog").scrollTop = 0;
-}
-
-export function closeDialog() {
-  if (by("dialog").open) by("dialog").close();
 }

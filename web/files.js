@@ -3,7 +3,7 @@
  * address; and a bench that comes to the same tables.
  */
 import { MOST_BYTES, emptyBench, writeBench } from "./bench.js";
-import { button, by, make, openDialog, withCode } from "./dom.js";
+import { make } from "./dom.js";
 
 /**
  * The text of a document within the page: `\l` stands for what would begin markup, and a backslash
@@ -29,10 +29,7 @@ export function keptTexts(data) {
   });
 }
 
-/**
- * The first sentence of the comment at a document's head.
- * @param {string} document
- */
+/** The first sentence of the comment at a document's head. @param {string} document */
 export function firstSentence(document) {
   const lines = document.split("\n");
   const end = lines.findIndex((it) => !it.startsWith("#"));
@@ -41,11 +38,8 @@ export function firstSentence(document) {
   return /^.*?[.!?](?= |$)/.exec(text)?.[0] ?? text;
 }
 
-/**
- * The text that bytes are. What isn't UTF-8 is read as half a letter, which no document has.
- * @param {Uint8Array | ArrayBuffer} bytes
- */
-function textOf(bytes) {
+/** The text that bytes are. What isn't UTF-8 is read as half a letter, which no document has. @param {Uint8Array | ArrayBuffer} bytes */
+export function textOf(bytes) {
   try {
     return new TextDecoder("utf-8", { fatal: true, ignoreBOM: true }).decode(bytes);
   } catch {
@@ -60,11 +54,7 @@ function base64url(bytes) {
   return btoa(text).replaceAll("+", "-").replaceAll("/", "_").replaceAll("=", "");
 }
 
-/**
- * Bytes through a stream that packs or unpacks them: as many as a document may have.
- * @param {Uint8Array} bytes
- * @param {any} stream
- */
+/** Bytes through a stream that packs or unpacks them: as many as a document may have. @param {Uint8Array} bytes @param {any} stream */
 async function through(bytes, stream) {
   const reader = new Blob([/** @type {any} */ (bytes)]).stream().pipeThrough(stream).getReader();
   /** @type {number[]} */
@@ -78,19 +68,13 @@ async function through(bytes, stream) {
   }
 }
 
-/**
- * A text as a part of a link.
- * @param {string} text
- */
+/** A text as a part of a link. @param {string} text */
 export async function packed(text) {
   const bytes = new TextEncoder().encode(text);
   return base64url(await through(bytes, new CompressionStream("deflate-raw")));
 }
 
-/**
- * The text of such a part. One that is damaged or cut is thrown.
- * @param {string} data
- */
+/** The text of such a part. One that is damaged or cut is thrown. @param {string} data */
 export async function unpacked(data) {
   if (!/^[A-Za-z0-9_-]+$/.test(data)) throw new Error("it has other letters");
   const text = atob(data.replaceAll("-", "+").replaceAll("_", "/"));
@@ -98,11 +82,7 @@ export async function unpacked(data) {
   return textOf(await through(bytes, new DecompressionStream("deflate-raw")));
 }
 
-/**
- * The bench that asks for the first rows of a run, and comes to the same tables.
- * @param {import("./run.js").Run} run
- * @param {number} count
- */
+/** The bench that asks for the first rows of a run, and comes to the same tables. @param {import("./run.js").Run} run @param {number} count */
 export function benchOf(run, count) {
   const { sets, limit, allowance, power, task, phase, key, radar } = run.bench;
   /** @type {(rows: any[]) => any[]} */
@@ -113,13 +93,9 @@ export function benchOf(run, count) {
   });
 }
 
-/**
- * Hands a text out as a file.
- * @param {string} name
- * @param {string} text
- */
-export function download(name, text) {
-  const address = URL.createObjectURL(new Blob([text], { type: "text/plain" }));
+/** Hands a text or a picture out as a file. @param {string} name @param {string | Blob} given */
+export function download(name, given) {
+  const address = URL.createObjectURL(typeof given === "string" ? new Blob([given], { type: "text/plain" }) : given);
   const link = make("a", { href: address, download: name });
   document.body.append(link);
   link.click();
@@ -127,42 +103,7 @@ export function download(name, text) {
   setTimeout(() => URL.revokeObjectURL(address), 1000);
 }
 
-/**
- * Opens the dialog in which a document is chosen, pasted, or changed and run again.
- * @param {import("./run.js").Source} source what is open
- * @param {(text: string, name: string, isExercise: boolean) => void} open
- */
-export function openOpening({ document, question }, open) {
-  const isExercise = question !== "";
-  const file = make("input", { type: "file", accept: ".toml,.txt", id: "file" });
-  file.addEventListener("change", async () => {
-    const [given] = file.files;
-    if (given !== undefined) open(textOf(await given.arrayBuffer()), given.name, false);
-  });
-  const keep = make("input", { type: "checkbox", id: "keep-question", checked: isExercise });
-  const area = make("textarea", { id: "pasted", spellcheck: false, "aria-label": "A document",
-    maxLength: MOST_BYTES + 1, value: document });
-  const paste = () => open(area.value, "what was pasted", keep.checked);
-  const pasted = button("Run it", paste, { id: "open-pasted" });
-  const begin = () => open("", "an empty bench", false);
-  openDialog("Open a bench or a scenario", [
-    make("p", {}, make("label", {}, "A file: ", file)),
-    make("p", {}, "Or change the document that is open, or paste another one over it. "
-      + "You can also drop a file on the page."), area,
-    make("p", { hidden: !isExercise }, make("label", {}, keep,
-      " This is still the exercise: keep its question on the page.")),
-    make("p", {}, pasted, " ", button("Begin with an empty bench", begin, { id: "open-empty" })),
-    make("p", { class: "wrong", id: "open-fault", role: "status" }),
-  ]);
-  area.setSelectionRange(0, 0);
-  (isExercise ? area : file).focus();
-  area.scrollTop = 0;
-}
-
-/**
- * Files that are dropped on the page are opened.
- * @param {(text: string, name: string) => void} open
- */
+/** Files that are dropped on the page are opened. @param {(text: string, name: string) => void} open */
 export function hearDrops(open) {
   const { body } = document;
   body.addEventListener("dragover", (event) => {
@@ -180,38 +121,14 @@ export function hearDrops(open) {
   });
 }
 
-/**
- * What the comment at a document's head asks, line by line.
- * @param {string} document
- */
+/** What the comment at a document's head asks, line by line. @param {string} document */
 export function questionOf(document) {
   const lines = document.split("\n");
   const end = lines.findIndex((it) => !it.startsWith("#"));
   return lines.slice(0, end < 0 ? lines.length : end).map((it) => it.slice(1).trim()).join("\n");
 }
 
-/**
- * A document without the comment at its head.
- * @param {string} document
- */
+/** A document without the comment at its head. @param {string} document */
 export function withoutQuestion(document) {
   return document.replace(/^(#.*\n)*\n?/, "");
-}
-
-/**
- * Opens the dialog of the examples and exercises.
- * @param {{ kind: string, name: string, text: string }[]} kept
- * @param {(name: string) => void} open
- */
-export function openExamples(kept, open) {
-  const listOf = (/** @type {string} */ kind) => {
-    const choices = kept.filter((it) => it.kind === kind).map((it) => {
-      const told = kind === "exercise" ? questionOf(it.text).split("\n")[0]
-        : firstSentence(it.text);
-      return make("li", {}, button(it.name, () => open(it.name)), " ", make("span", {}, ...withCode(told)));
-    });
-    return make("ul", { class: "choices", "aria-label": `${kind}s` }, ...choices);
-  };
-  openDialog("Examples", [listOf("example"), make("h3", {}, "Exercises"), listOf("exercise")]);
-  by("dialog-body").querySelector("button")?.focus();
 }

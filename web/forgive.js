@@ -46,10 +46,7 @@ function linesOf(text) {
     .map((it) => ({ text: it.trim(), number: k + 1 }))).filter((it) => it.text !== "");
 }
 
-/**
- * Whether a text is a script: its first line begins with a request's word, and has no sign `=`.
- * @param {string} text
- */
+/** Whether a text is a script: its first line begins with a request's word, and has no sign `=`. @param {string} text */
 export function isScript(text) {
   const [first] = linesOf(text);
   if (first === undefined || first.text.includes("=") || first.text.startsWith("[")) return false;
@@ -57,10 +54,7 @@ export function isScript(text) {
   return FORMS.has(word) || nearest(word, REQUESTS) !== undefined;
 }
 
-/**
- * The requests of pasted lines. A line that spells none is thrown, with its number.
- * @param {string} text
- */
+/** The requests of pasted lines. A line that spells none is thrown, with its number. @param {string} text */
 export function requestsIn(text) {
   return linesOf(text).map(({ text: given, number }) => {
     const { line } = forgiven(given);
@@ -70,10 +64,7 @@ export function requestsIn(text) {
   });
 }
 
-/**
- * The document of a script.
- * @param {string} text
- */
+/** The document of a script. @param {string} text */
 export function documentOfScript(text) {
   const lines = requestsIn(text).map((it) => `  ${JSON.stringify(it)},`);
   const limit = lines.length > 1000 ? `limit = ${lines.length}\n` : "";

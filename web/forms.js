@@ -1,9 +1,7 @@
-/**
- * Buttons for the common requests: those that need numbers open a small form. And buttons for the
- * requests of a bench's workers.
- */
-import { button, by, closeDialog, fill, labelled, make, openDialog } from "./dom.js";
-import { FORMS, MEANINGS, octal } from "./words.js";
+/** Buttons for the common requests: those that need numbers open a small form. And buttons for the requests of a bench's workers. */
+import { assign, button, by, fill, labelled, make, set } from "./dom.js";
+import { act, differ } from "./state.js";
+import { FORMS, MEANINGS, octal, visible } from "./words.js";
 
 const COMMON = ["tick", "change", "end", "novac", "findvac", "sleep", "rouse", "list", "prio",
   "store", "phase", "restart", "fresh"];
@@ -26,10 +24,7 @@ function addressChoices(id, bench, scene) {
     ...[...known].map(([at, name]) => make("option", { value: at, label: name })));
 }
 
-/**
- * The field of a part of a line.
- * @param {import("./words.js").Part} part
- */
+/** The field of a part of a line. @param {import("./words.js").Part} part */
 function fieldOf({ name, label, sentence }) {
   if (name === "P") {
     const all = Array.from({ length: 31 }, (_, k) => octal(k + 1, 2));
@@ -46,13 +41,11 @@ function fieldOf({ name, label, sentence }) {
 }
 
 /**
- * Opens the form of a request.
- * @param {string} word
- * @param {import("./bench.js").Bench} bench
- * @param {import("../libagc/js/machine.js").Scene} scene
+ * The form of a request.
+ * @param {string} word @param {import("./bench.js").Bench} bench @param {import("../libagc/js/machine.js").Scene} scene
  * @param {(line: string) => void} ask
  */
-function openForm(word, bench, scene, ask) {
+export function formOf(word, bench, scene, ask) {
   const parts = FORMS.get(word) ?? [];
   const fields = parts.map(fieldOf);
   const said = make("p", { class: "wrong", role: "status" });
@@ -62,13 +55,9 @@ function openForm(word, bench, scene, ask) {
   });
   const enter = () => {
     const wrong = parts.findIndex((part, k) => !part.is(fields[k].value.trim()));
-    said.textContent = wrong < 0 ? "" : parts[wrong].sentence;
-    if (wrong >= 0) {
-      fields[wrong].focus();
-      return;
-    }
-    closeDialog();
-    ask([word, ...fields.map((it) => it.value.trim())].join(" "));
+    set(said, wrong < 0 ? "" : parts[wrong].sentence);
+    if (wrong >= 0) fields[wrong].focus();
+    else ask([word, ...fields.map((it) => it.value.trim())].join(" "));
   };
   const form = make("div", { class: "fields",
     onkeydown: (/** @type {KeyboardEvent} */ event) => {
@@ -78,45 +67,47 @@ function openForm(word, bench, scene, ask) {
     } },
   ...parts.map((part, k) => labelled(word === "store" && part.name === "W" ? "Word" : part.label,
     fields[k])), button("Ask", enter));
-  const choices = addressChoices("addresses", bench, scene);
-  openDialog(`${word}: ${MEANINGS.get(word)}`, [choices, form, said]);
-  fields[0]?.focus();
+  return { heading: `${word}: ${MEANINGS.get(word)}`, children: [addressChoices("addresses", bench, scene), form, said],
+    focus: () => fields[0]?.focus() };
+}
+
+/** Buttons for the common requests: those that need numbers open their form. */
+export function makeCommon() {
+  fill("common", COMMON.map((word) => {
+    const wants = (FORMS.get(word)?.length ?? 0) > 0;
+    return button(wants ? `${word} …` : word, () => (wants ? act("form", word) : act("ask", word)), { title: MEANINGS.get(word) });
+  }));
 }
 
 /**
- * The next request of each worker of a bench, as buttons: so they take turns in an order of one's
- * own.
- * @param {import("./run.js").Run} run
- * @param {number} at
- * @param {(line: string, who: string) => void} ask
+ * Events by name, and the next request of each worker of a bench, so that they take turns in an order of
+ * one's own.
+ * @param {import("./state.js").State} now @param {import("./state.js").State} before
  */
-export function drawTurns(run, at, ask) {
-  const { worker } = run.bench;
-  by("turns").hidden = worker.length === 0;
-  const old = [...by("turns").children];
-  const place = old.findIndex((it) => it === document.activeElement);
+export function asked(now, before) {
+  if (!differ(now, before, "run", "at")) return;
+  const { run, at } = now;
+  const { worker, event } = run.bench;
+  const named = event.filter((it) => it.name !== undefined);
+  assign(by("events"), { hidden: named.length === 0 });
+  // (a scenario asks by itself: whoever wants to ask for more opens the list)
+  const isTimed = run.bench.seconds !== undefined;
+  if (isTimed !== (before.run?.bench.seconds !== undefined) || before.run === undefined) by("common-box").open = !isTimed;
+  if (run !== before.run) {
+    fill("events", named.map((it) => {
+      const name = visible(it.name ?? "");
+      return button(name, () => { for (const line of it.do) act("ask", line, `you: ${name}`); }, { title: it.do.join(", ") });
+    }));
+    fill("turns", worker.map((_, k) => button("", () => act("ask", by("turns").children[k].dataset.line, `worker ${k + 1}`))));
+  }
+  assign(by("turns"), { hidden: worker.length === 0 });
   const counts = worker.length === 0 ? new Map() : run.counts(at);
-  fill("turns", worker.map(({ script }, k) => {
+  worker.forEach(({ script }, k) => {
     const name = `worker ${k + 1}`;
     const line = script[counts.get(name) ?? 0];
-    const isDone = line === undefined;
-    return button(isDone ? `${name} has asked for all` : `${name}: ${line}`, () => ask(line, name),
-      { disabled: isDone });
-  }));
-  by("turns").children[place]?.focus();
-}
-
-/**
- * Fills a place with the buttons.
- * @param {HTMLElement} where
- * @param {() => import("./bench.js").Bench} bench
- * @param {() => import("../libagc/js/machine.js").Scene} scene
- * @param {(line: string) => void} ask
- */
-export function drawCommon(where, bench, scene, ask) {
-  fill(where, COMMON.map((word) => {
-    const wants = (FORMS.get(word)?.length ?? 0) > 0;
-    const run = wants ? () => openForm(word, bench(), scene(), ask) : () => ask(word);
-    return button(wants ? `${word} …` : word, run, { title: MEANINGS.get(word) });
-  }));
+    const made = by("turns").children[k];
+    set(made, line === undefined ? `${name} has asked for all` : `${name}: ${line}`);
+    assign(made, { disabled: line === undefined });
+    made.dataset.line = line ?? "";
+  });
 }

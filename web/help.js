@@ -9,7 +9,7 @@ const KEYS = [
   ["space", "run the clock, or pause"], [". n", "a centisecond; to the next event"],
   ["u r", "undo, redo"], ["b o e", "new, open, examples"], ["d p s", "edit, plan, save"],
   ["+ -", "closer, wider"], ["[ ]", "move along the chart"], ["f x", "all of the chart; to an alarm"],
-  ["?", "this help"],
+  ["P", "larger, for a projector: chart and story alone"], ["?", "this help"],
 ];
 
 const TABLES = [
@@ -23,17 +23,13 @@ const TABLES = [
   ["NEWJOB", "the job that is more urgent than the running one, if any"],
 ];
 
-/**
- * Words and what they mean.
- * @param {string[][]} rows
- * @param {(word: string) => any[]} spelled how a word is written
- */
+/** Words and what they mean. @param {string[][]} rows @param {(word: string) => any[]} spelled how a word is written */
 function listOf(rows, spelled) {
   return make("dl", { class: "keys" }, ...rows.flatMap(([word, what]) =>
     [make("dt", {}, ...spelled(word)), make("dd", {}, what)]));
 }
 
-export function HELP() {
+export function help() {
   const keys = listOf(KEYS, (it) => it.split(" ").flatMap((key) => [make("kbd", {}, key), " "]));
   const requests = REQUESTS.map((it) => [formOf(it), MEANINGS.get(it) ?? ""]);
   return [
@@ -41,12 +37,12 @@ export function HELP() {
       + "Executive's jobs, the Waitlist's tasks and the phases of the restart. Type a request, or "
       + "open an example, and step through what happens."),
     make("p", {}, "Each request is a row. If you type a request at an earlier row, the run goes on "
-      + "from there, and the rows that came after it are kept as a branch. A box with an orange "
+      + "from there, and the rows that came after it are kept as a branch. A box with a marked "
       + "corner has changed since the row before. A job has the colour of its name, or of the address "
       + "at which it began. Touch a box, by a click or by Tab and the arrows, and it is told what it is."),
     make("p", {}, "The chart has a lane for each core set: a job is bright while it runs, pale while it "
-      + "waits, and hatched while it sleeps. Point at a block to see who it is; a click goes there. "
-      + "Zoom by the wheel, by two fingers, by keys, or draw a range."),
+      + "waits, and hatched while it sleeps. Point at a block to see who it is; a click goes there, and shows "
+      + "what asked for it. Zoom by Ctrl and the wheel, by two fingers, by keys, or draw a range."),
     make("p", {}, "The clock lets centiseconds pass. A job with a cost ends when it has run for "
       + "that long, or first asks for what its list says; stolen time is taken away from the jobs. "
       + "The sliders change these numbers, from the beginning or from here on; the run before stays "

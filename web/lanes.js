@@ -3,19 +3,21 @@
  * in each core set, with the areas that they own; the tasks that wait; and the events by name. It is
  * a log of changes, so that a run of 60,000 ticks has some thousand entries.
  *
- * @typedef {{ id: number, number: number, at: number, priority: number, area: number,
- *   state: number, from: number, to: number }} Block
+ * An entry's key says since when it holds: 2 n + 1 is what request n has left, and 2 n what was there
+ * as request n was answered, where a restart swept it at once.
+ *
+ * @typedef {import("../libagc/js/machine.js").Job} Job
+ * @typedef {{ id: number, number: number, at: number, now: number, priority: number, area: number,
+ *   state: number, from: number, to: number }} Block `at` is where the job began, `now` where it is;
+ *   `from` and `to` are keys, and `to` is 0 where nothing came after
  */
+import { NUMBERS } from "../libagc/js/library.js";
 import { Column } from "./column.js";
 
 /** What a job does that is in a core set. */
 export const State = Object.freeze({ RUNS: 1, WAITS: 2, SLEEPS: 3 });
 
-const FREE = 0o77777;
-const MOST_RUNNING = 0o37777;
-const AREAS = [0o300, 0o354, 0o430, 0o504, 0o560];
-const MOST_SETS = 8;
-const MOST_TASKS = 9;
+const { MOST_SETS, TASKS: MOST_TASKS } = NUMBERS;
 
 /**
  * The last of the first `count` numbers, which go up, that is at most this.
@@ -33,37 +35,39 @@ export function lastUpTo(numbers, count, most) {
   return low - 1;
 }
 
-/** The log of one core set: from which row on it holds which job, and how. */
+const LANE_COLUMNS = /** @type {const} */ (["keys", "ids", "values", "places"]);
+
+/** The log of one core set: since when it holds which job, and how. */
 class Lane {
   constructor() {
     this.count = 0;
-    this.rows = new Column(Uint32Array);
+    this.keys = new Column(Uint32Array);
     this.ids = new Column(Uint32Array);
     this.values = new Column(Uint16Array);
+    /** The address at which each job is: another than where it began, once it has slept. */
+    this.places = new Column(Uint16Array);
   }
 
-  /**
-   * @param {number} row
-   * @param {number} id the job's, and 0 where the set is free
-   * @param {number} value
-   */
-  put(row, id, value) {
+  /** @param {number} key @param {number} id the job's, and 0 where the set is free @param {number} value @param {number} place */
+  put(key, id, value, place) {
+    const { keys, ids, values, places } = this;
     const last = this.count - 1;
-    if (last >= 0 && this.ids.items[last] === id && this.values.items[last] === value) return;
-    const k = last >= 0 && this.rows.items[last] === row ? last : this.count;
-    this.rows.set(k, row);
-    this.ids.set(k, id);
-    this.values.set(k, value);
+    const isSame = last >= 0 && ids.items[last] === id && values.items[last] === value
+      && places.items[last] === place;
+    if (isSame) return;
+    const k = last >= 0 && keys.items[last] === key ? last : this.count;
+    keys.set(k, key);
+    ids.set(k, id);
+    values.set(k, value);
+    places.set(k, place);
     this.count = k + 1;
   }
 
-  /** @param {number} row */
-  front(row) {
+  /** @param {number} key */
+  front(key) {
     const made = new Lane();
-    made.count = lastUpTo(this.rows.items, this.count, row) + 1;
-    made.rows = this.rows.front(made.count);
-    made.ids = this.ids.front(made.count);
-    made.values = this.values.front(made.count);
+    made.count = lastUpTo(this.keys.items, this.count, key) + 1;
+    for (const name of LANE_COLUMNS) made[name] = /** @type {any} */ (this[name].front(made.count));
     return made;
   }
 }
@@ -80,38 +84,34 @@ class Comers {
     this.place = new Column(Uint8Array);
   }
 
-  /**
-   * @param {number} row
-   * @param {number} at
-   * @param {number} bank
-   * @param {number} more
-   * @param {number} place
-   */
-  come(row, at, bank, more, place) {
+  /** @param {number} key @param {{ at: number, bank: number, more: number, place: number }} of */
+  come(key, { at, bank, more, place }) {
     const id = this.count++;
     this.at.set(id, at);
     this.bank.set(id, bank);
-    this.born.set(id, row);
+    this.born.set(id, key);
     this.gone.set(id, 0);
     this.more.set(id, more);
     this.place.set(id, place);
     return id;
   }
 
-  /**
-   * Those that had come up to a row, as it was then.
-   * @param {number} row
-   */
-  front(row) {
+  /** Those that had come up to a key, as it was then. @param {number} key */
+  front(key) {
     const made = new Comers();
-    made.count = 1 + lastUpTo(this.born.items.subarray(1), this.count - 1, row) + 1;
+    made.count = this.lastUpTo(key) + 1;
     for (const name of /** @type {const} */ (["at", "bank", "born", "gone", "more", "place"])) {
       made[name] = /** @type {any} */ (this[name].front(made.count));
     }
     for (let id = 1; id < made.count; id++) {
-      if (made.gone.items[id] > row) made.gone.items[id] = 0;
+      if (made.gone.items[id] > key) made.gone.items[id] = 0;
     }
     return made;
+  }
+
+  /** The last one that had come up to a key; 0 where none had. @param {number} key */
+  lastUpTo(key) {
+    return 1 + lastUpTo(this.born.items.subarray(1), this.count - 1, key);
   }
 
   /** Those that are still there. */
@@ -135,48 +135,43 @@ export class Lanes {
     /** @type {number[]} */
     this.waiting = [];
     this.events = { count: 0, rows: new Column(Uint32Array), by: new Column(Uint16Array) };
+    /** The rows with which an era began. @type {number[]} */
+    this.eras = [];
   }
 
-  /**
-   * Looks at what a row has left.
-   * @param {number} row
-   * @param {Uint16Array} words
-   * @param {boolean} beginsEra
-   */
-  lookAtJobs(row, words, beginsEra) {
+  /** The jobs that are there since a key, by core set. @param {number} key @param {(Job | null)[]} jobs @param {boolean} beginsEra */
+  lookAtJobs(key, jobs, beginsEra) {
+    if (beginsEra && key > 1) this.eras.push(key >> 1);
     const before = this.byNumber;
     const now = new Uint32Array(MOST_SETS + 1);
     for (let k = 0; k < this.sets.length; k++) {
-      const at = k === 7 ? 132 : 12 * k;
-      const mode = words[at + 11];
-      if (mode === FREE) {
-        this.sets[k].put(row, 0, 0);
+      const job = jobs[k];
+      if (job === null) {
+        this.sets[k].put(key, 0, 0, 0);
         continue;
       }
-      const number = words[at];
+      const { number, at, bank, asleep, priority, area } = job;
       const isOld = !beginsEra && before[number] > 0;
-      const id = isOld ? before[number] : this.jobs.come(row, words[at + 8], words[at + 9], number, k);
+      const id = isOld ? before[number] : this.jobs.come(key, { at, bank, more: number, place: k });
       now[number] = id;
-      const asleep = mode > MOST_RUNNING;
-      const packed = asleep ? FREE - mode : mode;
       const state = asleep ? State.SLEEPS : k === 0 ? State.RUNS : State.WAITS;
-      const area = AREAS.indexOf(packed & 0o777) + 1;
-      this.sets[k].put(row, id, number | (state << 4) | ((packed >> 9) << 6) | (area << 11));
+      this.sets[k].put(key, id, number | (state << 4) | (priority << 6) | (area << 11), at);
     }
     for (let number = 1; number <= MOST_SETS; number++) {
       if (before[number] > 0 && before[number] !== now[number]) {
-        this.jobs.gone.items[before[number]] = Math.max(1, row);
+        this.jobs.gone.items[before[number]] = key;
       }
     }
     this.byNumber = now;
   }
 
   /**
-   * @param {number} row
+   * Looks at the tasks that wait since a key.
+   * @param {number} key
    * @param {{ at: number, bank: number, due: number, since: number }[]} tasks
    * @param {boolean} beginsEra
    */
-  lookAtTasks(row, tasks, beginsEra) {
+  lookAtTasks(key, tasks, beginsEra) {
     const { at, bank, more, place, gone } = this.tasks;
     const left = beginsEra ? [] : [...this.waiting];
     const found = tasks.map((it) => {
@@ -185,21 +180,18 @@ export class Lanes {
       return k < 0 ? 0 : left.splice(k, 1)[0];
     });
     const all = beginsEra ? this.waiting : left;
-    for (const id of all) gone.items[id] = Math.max(1, row);
+    for (const id of all) gone.items[id] = key;
     const taken = new Set(found.filter((id) => id > 0).map((id) => place.items[id]));
     this.waiting = found.map((id, k) => {
       if (id > 0) return id;
       let free = 0;
       while (taken.has(free) && free < MOST_TASKS - 1) free++;
       taken.add(free);
-      return this.tasks.come(row, tasks[k].at, tasks[k].bank, tasks[k].due, free);
+      return this.tasks.come(key, { at: tasks[k].at, bank: tasks[k].bank, more: tasks[k].due, place: free });
     });
   }
 
-  /**
-   * @param {number} row
-   * @param {number} by
-   */
+  /** @param {number} row @param {number} by */
   event(row, by) {
     const { events } = this;
     events.rows.set(events.count, row);
@@ -207,15 +199,14 @@ export class Lanes {
     events.count += 1;
   }
 
-  /**
-   * The lanes up to a row.
-   * @param {number} row
-   */
+  /** The lanes up to a row. @param {number} row */
   front(row) {
     const made = new Lanes(0);
-    made.sets = this.sets.map((it) => it.front(row));
-    made.jobs = this.jobs.front(row);
-    made.tasks = this.tasks.front(row);
+    const key = 2 * row + 1;
+    made.sets = this.sets.map((it) => it.front(key));
+    made.jobs = this.jobs.front(key);
+    made.tasks = this.tasks.front(key);
+    made.eras = this.eras.filter((it) => it <= row);
     for (const id of made.jobs.living()) made.byNumber[made.jobs.more.items[id]] = id;
     made.waiting = made.tasks.living();
     const count = lastUpTo(this.events.rows.items, this.events.count, row) + 1;
@@ -223,24 +214,19 @@ export class Lanes {
     return made;
   }
 
-  /**
-   * The job in a core set after a row, or null.
-   * @param {number} set
-   * @param {number} row
-   * @returns {Block | null}
-   */
+  /** The job in a core set after a row, or null. @param {number} set @param {number} row @returns {Block | null} */
   blockAt(set, row) {
+    return this.blockAtKey(set, 2 * row + 1);
+  }
+
+  /** @param {number} set @param {number} key */
+  blockAtKey(set, key) {
     const lane = this.sets[set];
-    const k = lastUpTo(lane.rows.items, lane.count, row);
+    const k = lastUpTo(lane.keys.items, lane.count, key);
     return k < 0 ? null : this.block(set, k);
   }
 
-  /**
-   * An entry of a core set's log, or null where the set is free.
-   * @param {number} set
-   * @param {number} k
-   * @returns {Block | null}
-   */
+  /** An entry of a core set's log, or null where the set is free. @param {number} set @param {number} k @returns {Block | null} */
   block(set, k) {
     const lane = this.sets[set];
     const id = lane.ids.items[k];
@@ -248,8 +234,8 @@ export class Lanes {
     if (id === 0) return null;
     return {
       ...{ id, number: value & 15, state: (value >> 4) & 3, priority: (value >> 6) & 31 },
-      ...{ area: value >> 11, at: this.jobs.at.items[id], from: lane.rows.items[k] },
-      to: k + 1 < lane.count ? lane.rows.items[k + 1] : 0,
+      ...{ area: value >> 11, at: this.jobs.at.items[id], now: lane.places.items[k] },
+      ...{ from: lane.keys.items[k], to: k + 1 < lane.count ? lane.keys.items[k + 1] : 0 },
     };
   }
 }

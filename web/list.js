@@ -5,12 +5,16 @@
  * @typedef {import("./run.js").Shown} Shown
  * @typedef {import("../libagc/js/machine.js").Scene} Scene
  * @typedef {import("./account.js").Names} Names
+ * @typedef {import("./state.js").State} State
  */
-import { by, fill, make, withCode } from "./dom.js";
-import { octal } from "./words.js";
+import { assign, attribute, by, fill, make, set, withCode } from "./dom.js";
+import { act, differ, isHidden, namesOf, rowOf } from "./state.js";
+import { MEANINGS, PARTS, formOf, octal } from "./words.js";
 
 /** How many lines the list has, also where there are fewer rows. */
 const LINES = 15;
+const AROUND = 7;
+const CELLS = 9;
 
 /** How many ticks in a row in which nothing changes are printed as one line. */
 const LEAST_QUIET = 3;
@@ -35,11 +39,7 @@ function setsCell(scene, names) {
   }).join(" ");
 }
 
-/**
- * The cells of a row, as a trace has them.
- * @param {Shown} shown
- * @param {Names} names
- */
+/** The cells of a row, as a trace has them. @param {Shown} shown @param {Names} names */
 function cellsOf({ row, ticks, line, reply, scene, who }, names) {
   const tasks = scene.tasks.map((it) => `${names.taskCell(it)}+${it.left}`).join(" ");
   return [
@@ -52,56 +52,58 @@ function cellsOf({ row, ticks, line, reply, scene, who }, names) {
   ];
 }
 
-/**
- * @param {Shown} shown
- * @param {import("./run.js").Run} run
- * @param {Names} names
- */
+/** A printed line. @param {Shown} shown @param {import("./run.js").Run} run @param {Names} names */
 function lineOf(shown, run, names) {
-  const style = run.isRefused(shown.row) ? "refused" : run.isChange(shown.row) ? "change" : "";
   const isAlarm = shown.reply.includes("alarm");
-  return make("tr", { class: style },
-    ...cellsOf(shown, names).map((it, k) =>
-      make("td", k === 3 && isAlarm ? { class: "alarm" } : {}, it)));
+  return make("tr", { class: styleOf(run, shown.row) },
+    ...cellsOf(shown, names).map((it, k) => make("td", k === 3 && isAlarm ? { class: "alarm" } : {}, it)));
 }
 
-/**
- * Draws the rows around one.
- * @param {import("./run.js").Run} run
- * @param {Shown[]} shown
- * @param {number} at
- * @param {Names} names
- * @param {{ go: (row: number) => void, veiled: (shown: Shown) => Shown }} hands what is done when a
- *   row is clicked, and what of it may be seen
- */
-export function drawList(run, shown, at, names, { go, veiled }) {
-  const rows = shown.map((it) => {
-    const line = lineOf(veiled(it), run, names);
-    if (it.row === at) line.setAttribute("aria-current", "true");
-    line.addEventListener("click", () => go(it.row));
-    return line;
+/** @param {import("./run.js").Run} run @param {number} row */
+function styleOf(run, row) {
+  return run.isRefused(row) ? "refused" : run.isChange(row) ? "change" : "";
+}
+
+/** The lines of the list, with their cells. @type {{ line: any, cells: any[], row: number }[]} */
+let lines = [];
+
+/** Makes the lines, which stay: a click goes to the row that one shows. */
+export function makeList() {
+  lines = Array.from({ length: LINES }, () => {
+    const cells = Array.from({ length: CELLS }, () => make("td"));
+    const made = { line: make("tr", {}, ...cells), cells, row: -1 };
+    made.line.addEventListener("click", () => { if (made.row >= 0) act("go", made.row); });
+    return made;
   });
-  while (rows.length < LINES) {
-    rows.push(make("tr", { "aria-hidden": "true" }, make("td", { colSpan: 9 }, "\u00a0")));
-  }
-  fill("lines", rows);
+  fill("lines", lines.map((it) => it.line));
 }
 
-/**
- * Whether nothing but a centisecond went by in a row.
- * @param {import("./run.js").Run} run
- * @param {number} row
- */
+/** Draws the rows around the one that is shown, and none behind it that would answer an exercise. @param {State} now @param {State} before */
+export function list(now, before) {
+  if (!differ(now, before, "run", "count", "at", "hidden")) return;
+  const { run, at } = now;
+  const count = isHidden(now) ? at : now.count;
+  const from = Math.max(0, Math.min(at - AROUND, count - 2 * AROUND));
+  const names = namesOf(run);
+  lines.forEach((it, k) => {
+    it.row = from + k <= count ? from + k : -1;
+    attribute(it.line, "aria-hidden", it.row < 0 ? "true" : null);
+    attribute(it.line, "aria-current", it.row === at ? "true" : null);
+    assign(it.line, { className: it.row < 0 ? "" : styleOf(run, it.row) });
+    const shown = it.row < 0 ? null : rowOf(now, it.row);
+    const cells = shown === null ? [] : cellsOf(shown, names);
+    it.cells.forEach((cell, n) => set(cell, cells[n] ?? ""));
+    assign(it.cells[3], { className: shown?.reply.includes("alarm") ? "alarm" : "" });
+  });
+}
+
+/** Whether nothing but a centisecond went by in a row. @param {import("./run.js").Run} run @param {number} row */
 function isQuiet(run, row) {
   const isMore = run.isChange(row) || run.isAlarm(row) || run.isRefused(row);
   return run.lines[row] === "tick" && !isMore;
 }
 
-/**
- * The rows in stretches: of many in which only time went by, or of the others.
- * @param {import("./run.js").Run} run
- * @param {number} count
- */
+/** The rows in stretches: of many in which only time went by, or of the others. @param {import("./run.js").Run} run @param {number} count */
 function* stretches(run, count) {
   let from = 0;
   for (let row = 1; row <= count + 1; row++) {
@@ -201,12 +203,16 @@ export function drawPrinted(run, count, names, [title, outcome, plan], account) 
 }
 
 /**
- * An exercise for paper: its title, its question and its document, and room for what is expected.
+ * An exercise for paper: its title, its question and its document, a line for each field, and what the requests do.
  * @param {string} question
  * @param {string} document
+ * @param {string[]} fields what is asked for
  */
-export function printQuestion(question, document) {
+export function printQuestion(question, document, fields) {
   const [title, ...lines] = question.split("\n");
   fill("printed", [make("h1", {}, title), make("p", {}, ...withCode(lines.join(" "))), make("pre", {}, document.trim()),
-    make("p", {}, "What I expect: ____________________________________________________________")]);
+    make("dl", { class: "answers" }, ...fields.flatMap((it) => [make("dt", {}, it), make("dd", {})])),
+    make("h2", {}, "The requests"), make("table", { class: "legend" }, ...[...MEANINGS].map(([word, what]) =>
+      make("tr", {}, make("td", {}, formOf(word)), make("td", {}, what)))),
+    make("p", {}, `${Object.values(PARTS).map((it) => `${it.name}: ${it.sentence}`).join("; ")}.`)]);
 }

@@ -3,7 +3,7 @@
  * applied is the whole document, read by the reader of documents.
  */
 import { LEVELS, leftOut, readBench, writeBench } from "./bench.js";
-import { button, by, fill, labelled, make, openDialog } from "./dom.js";
+import { button, by, fill, labelled, make } from "./dom.js";
 import { Unread } from "./toml.js";
 
 /** What a field is called, and what it is for. */
@@ -34,10 +34,7 @@ const STOLEN_KEYS = ["from", "to", "percent", "every", "until"];
 /** A cost by lot as it is typed. */
 const BY_LOT = /^([0-9]+)[ ,]+([0-9]+)$/;
 
-/**
- * What is typed for a key, of a value.
- * @param {any} value
- */
+/** What is typed for a key, of a value. @param {any} value */
 function typed(value) {
   if (value === undefined) return "";
   if (Array.isArray(value) && value[0]?.percent !== undefined) {
@@ -48,12 +45,7 @@ function typed(value) {
   return Array.isArray(value) ? value.join("\n") : String(value);
 }
 
-/**
- * A field for a key: empty where the key may be left out, and then this is meant.
- * @param {string} name
- * @param {any} value
- * @param {any} [left]
- */
+/** A field for a key: empty where the key may be left out, and then this is meant. @param {string} name @param {any} value @param {any} [left] */
 function field(name, value, left) {
   const text = typed(value) === typed(left) ? "" : typed(value);
   const placeholder = typed(left).length > 9 ? "any" : typed(left);
@@ -74,11 +66,7 @@ function field(name, value, left) {
   return make("input", { type: "text", name, size, ...more });
 }
 
-/**
- * The value that a field has been given, of a key of this kind.
- * @param {string} text
- * @param {import("./bench.js").Key} row
- */
+/** The value that a field has been given, of a key of this kind. @param {string} text @param {import("./bench.js").Key} row */
 function valueOf(text, row) {
   const lines = text.split("\n").map((it) => it.trim()).filter((it) => it !== "");
   if (lines.length === 0) return undefined;
@@ -93,10 +81,7 @@ function valueOf(text, row) {
   return isNumber ? BigInt(lines[0]) : text.trim();
 }
 
-/**
- * @param {HTMLElement} where
- * @param {Record<string, import("./bench.js").Key>} level
- */
+/** @param {HTMLElement} where @param {Record<string, import("./bench.js").Key>} level */
 function valuesIn(where, level) {
   /** @type {Record<string, any>} */
   const values = {};
@@ -107,11 +92,7 @@ function valuesIn(where, level) {
   return values;
 }
 
-/**
- * A row of a table.
- * @param {Record<string, import("./bench.js").Key>} level
- * @param {any} values
- */
+/** A row of a table. @param {Record<string, import("./bench.js").Key>} level @param {any} values */
 function rowOf(level, values) {
   const row = make("div", { class: "fields" }, ...Object.keys(level).map((name) =>
     labelled(LABELS[/** @type {keyof typeof LABELS} */ (name)], field(name, values[name]))));
@@ -136,10 +117,7 @@ function tableOf(name, level, rows) {
   return make("fieldset", {}, make("legend", {}, heading), body, add);
 }
 
-/**
- * Which keys are fields, and which are tables, of a bench or a scenario.
- * @param {boolean} isScenario
- */
+/** Which keys are fields, and which are tables, of a bench or a scenario. @param {boolean} isScenario */
 function partsOf(isScenario) {
   /** @type {Record<string, any>} */
   const level = isScenario ? LEVELS.scenario : LEVELS.bench;
@@ -149,11 +127,11 @@ function partsOf(isScenario) {
 }
 
 /**
- * Opens the editor. What is applied is handed on as a bench.
+ * The editor. What is applied is handed on as a bench.
  * @param {import("./bench.js").Bench} bench
  * @param {(bench: import("./bench.js").Bench) => void} apply
  */
-export function openPlan(bench, apply) {
+export function planOf(bench, apply) {
   const said = make("p", { class: "wrong", id: "plan-fault", role: "status" });
   const body = make("div", { id: "plan-body" });
   let isScenario = bench.seconds !== undefined;
@@ -172,7 +150,7 @@ export function openPlan(bench, apply) {
   const read = () => {
     const { level, single, tables } = partsOf(isScenario);
     /** @type {any} */
-    const values = { ...bench, ...valuesIn(by("plan-fields"), level) };
+    const values = { ...bench, ...valuesIn(body.querySelector("#plan-fields"), level) };
     for (const name of tables) {
       const below = /** @type {any} */ (LEVELS)[level[name].form];
       values[name] = [...body.querySelectorAll(`#plan-${name} > .fields`)]
@@ -188,7 +166,7 @@ export function openPlan(bench, apply) {
     draw({ ...values, seconds: isScenario ? values.seconds ?? 60 : undefined });
   });
   draw(bench);
-  openDialog("Plan", [make("p", {}, make("label", {}, timed,
+  return [make("p", {}, make("label", {}, timed,
     " Jobs take time (a scenario: seconds, stolen time, costs, events)")), body, said,
   make("p", {}, button("Apply, and run again", () => {
     try {
@@ -196,14 +174,10 @@ export function openPlan(bench, apply) {
     } catch (fault) {
       said.textContent = /** @type {Error} */ (fault).message;
     }
-  }, { id: "plan-apply" }))]);
+  }, { id: "plan-apply" }))];
 }
 
-/**
- * A bench of typed values, as its document is read.
- * @param {any} values
- * @param {boolean} isScenario
- */
+/** A bench of typed values, as its document is read. @param {any} values @param {boolean} isScenario */
 function checked(values, isScenario) {
   const seconds = isScenario ? values.seconds ?? "" : undefined;
   try {

@@ -1,77 +1,53 @@
 /**
- * What a reader expects of an exercise, before its answer is shown: how many alarms, the first of
- * them, who runs at the end. The machine's own answer says what was right, and where it went wrong.
+ * What a reader expects of an exercise, before its answer is shown: the exercise's own fields. A first wrong try gets a
+ * hint; with the second one the machine's answers are shown, and where they are seen.
  */
 import { button, labelled, make } from "./dom.js";
-import { counted, octal } from "./words.js";
+import { EXERCISES, plainly, whole } from "./fields.js";
+import { act } from "./state.js";
 
-/**
- * What came of a run, as a prediction has it.
- * @param {import("./run.js").Run} run
- * @param {number} count
- */
-function answerOf(run, count) {
-  const rows = run.alarms.filter((row) => row <= count);
-  const [last] = run.show(count, count);
-  const scene = last.after ?? last.scene;
-  return {
-    alarms: { value: String(rows.length), row: rows[0] ?? count },
-    code: { value: rows.length === 0 ? "none" : octal(run.columns.numbers.items[rows[0]], 4), row: rows[0] ?? count },
-    row: { value: rows.length === 0 ? "none" : String(rows[0]), row: rows[0] ?? count },
-    runs: { value: scene.running === 0 ? "none" : String(scene.running), row: count },
-  };
-}
+/** @typedef {import("./state.js").State} State */
 
-/** The questions, and how each answer is said. */
-const QUESTIONS = {
-  alarms: { label: "How many alarms?", said: (/** @type {string} */ it) => counted(Number(it), "alarm"), options: null },
-  code: { label: "The first alarm", said: (/** @type {string} */ it) => (it === "none" ? "no alarm" : `alarm ${it}`),
-    options: ["", "none", "1201", "1202", "1203"] },
-  row: { label: "In which request?", said: (/** @type {string} */ it) => (it === "none" ? "no alarm" : `in request ${it}`), options: null },
-  runs: { label: "Which job runs at the end?", said: (/** @type {string} */ it) => (it === "none" ? "no job runs" : `job ${it} runs`), options: null },
-};
+/** The fields of the exercise that is open. @param {State} now */
+const fieldsOf = ({ run }) => EXERCISES[run.source.exercise]?.fields ?? [];
 
-/**
- * The form of a prediction.
- * @param {any} workbench
- * @param {() => void} reveal
- */
-export function predictionOf(workbench, reveal) {
-  /** @type {Record<string, any>} */
-  const fields = {};
-  const labels = Object.entries(QUESTIONS).map(([name, { label, options }]) => {
-    fields[name] = options === null
-      ? make("input", { type: "text", name, size: 4, autocomplete: "off", inputMode: "numeric" })
-      : make("select", { name }, ...options.map((it) => make("option", { value: it }, it === "" ? "–" : it)));
-    return labelled(label, fields[name]);
+/** What is right for each field that was filled, and whether it was said. @param {State} now @param {string[]} given */
+export function judged(now, given) {
+  const run = given.every((it) => it === "") ? now.run : whole(now.run.source.document);
+  return fieldsOf(now).flatMap(({ label, answer }, k) => {
+    if ((given[k] ?? "") === "") return [];
+    const { value, row } = answer(run);
+    return [{ label, given: given[k], value, row, isRight: plainly(given[k]) === plainly(value) }];
   });
-  const check = button("Check, and show what happens", () => {
-    workbench.predicted = Object.fromEntries(Object.entries(fields).map(([name, it]) => [name, it.value.trim()]));
-    reveal();
-  }, { id: "check-prediction" });
-  return make("div", { class: "fields", role: "group", "aria-label": "What do you expect?", id: "prediction" }, ...labels, check);
 }
 
-/**
- * What is said of a prediction, with links to where it went wrong; nothing where none was made.
- * @param {any} workbench
- * @returns {any[]}
- */
-export function verdictOf(workbench) {
-  const given = /** @type {Record<string, string>} */ (workbench.predicted ?? {});
-  const { run, count } = workbench.view;
-  const asked = Object.keys(QUESTIONS).filter((it) => (given[it] ?? "") !== "");
-  if (asked.length === 0) return [];
-  const answer = answerOf(run, count);
-  return asked.map((name) => {
-    const { said } = QUESTIONS[/** @type {keyof typeof QUESTIONS} */ (name)];
-    const { value, row } = answer[/** @type {keyof typeof answer} */ (name)];
-    const typed = given[name].replace(/^0$/, name === "alarms" ? "0" : "none").toLowerCase();
-    if (typed === value) return make("li", { class: "right" }, `Right: ${said(value)}.`);
-    const link = make("a", { href: `#${row}`, onclick: (/** @type {Event} */ event) => {
+/** The form of a prediction, with what was typed, and after a wrong try the hint. @param {State} now */
+export function predictionOf(now) {
+  const { predicted, tries, run } = now;
+  const fields = fieldsOf(now).map(({ options }, k) => {
+    const value = predicted[k] ?? "";
+    if (options === undefined) return make("input", { type: "text", size: 6, autocomplete: "off", value });
+    return make("select", {}, ...["", ...options].map((it) => make("option", { value: it, selected: it === value }, it === "" ? "–" : it)));
+  });
+  const check = () => act("check", fields.map((it) => it.value.trim()));
+  const labels = fieldsOf(now).map(({ label }, k) => labelled(label, fields[k]));
+  const wrong = tries === 0 ? [] : judged(now, predicted).filter((it) => !it.isRight);
+  const told = wrong.length === 0 ? [] : [make("p", { class: "hint-given", id: "hint-given", role: "status" },
+    `Not yet: ${wrong.map((it) => `“${it.given}”`).join(", ")}. ${EXERCISES[run.source.exercise].hint}`)];
+  return [make("div", { class: "fields", role: "group", "aria-label": "What do you expect?", id: "prediction",
+    onkeydown: (/** @type {KeyboardEvent} */ event) => { if (event.key === "Enter" && event.target instanceof HTMLInputElement) check(); } }, ...labels,
+  button("Check", check, { id: "check-prediction", class: "primary" })), ...told];
+}
+
+/** What is said of a prediction, with links to where it is seen; nothing where none was made. @param {State} now @returns {any[]} */
+export function verdictOf(now) {
+  return judged(now, now.predicted).map(({ label, given, value, row, isRight }) => {
+    const question = label.replace(/ Addresses$/, "");
+    if (isRight) return make("li", { class: "right" }, `${question} Right: ${value}.`);
+    const link = row === undefined ? [] : [" See ", make("a", { href: `#${row}`, onclick: (/** @type {Event} */ event) => {
       event.preventDefault();
-      workbench.go(row);
-    } }, `request ${row}`);
-    return make("li", { class: "not" }, `You expected “${given[name]}”, and it is: ${said(value)}. See `, link, ".");
+      act("go", row);
+    } }, `request ${row}`), "."];
+    return make("li", { class: "not" }, `${question} You expected “${given}”, and it is: ${value}.`, ...link);
   });
 }

@@ -12,6 +12,7 @@
  *   afterWords: Uint16Array, last: Scene | null, era: number, begun: number, ended: number,
  *   isAfter?: boolean }} Shown
  */
+import { NUMBERS } from "../libagc/js/library.js";
 import { Code, Kind, Machine, refusalOf, sceneOf } from "../libagc/js/machine.js";
 import { Column } from "./column.js";
 import { Lanes } from "./lanes.js";
@@ -19,17 +20,17 @@ import { Lanes } from "./lanes.js";
 /** How many rows lie between two checkpoints. */
 const APART = 256;
 
+/** How many rows are kept that were looked at. */
+const MOST_SEEN = 256;
+
 /** How many requests are asked at a stretch, so that the page goes on answering. */
-export const STRETCH = 64_000;
+export const STRETCH = 2_000;
 
 /** How many rows a run has at most, and how many a bench may ask for. */
 export const MOST_ROWS = 4_000_000;
 export const MOST_ASKED = 2_000_000;
 
-/**
- * Each line that was asked, once: a run of many requests has few different lines.
- * @type {Map<string, string>}
- */
+/** Each line that was asked, once: a run of many requests has few different lines. @type {Map<string, string>} */
 const spelled = new Map();
 
 /** How many different lines are kept so. */
@@ -50,40 +51,18 @@ export const LOG_FULL = 101;
 const REFUSED = { [Code.OK]: 0, [Code.SPENT]: SPENT, [Code.LOG_FULL]: LOG_FULL };
 
 /**
- * The document that a run came of, and the exercise that it is, if any: name and question, whether
- * the answer is hidden still, and whether the document isn't the exercise's own. A run that goes on
- * from another has the same source.
+ * The document that a run came of, and the exercise that it is, if any: name and question, and
+ * whether the document isn't the exercise's own. A run that goes on from another has the same source.
  *
- * @typedef {{ document: string, exercise: string, question: string, isHidden: boolean,
- *   isChanged: boolean }} Source
+ * @typedef {{ document: string, exercise: string, question: string, isChanged: boolean }} Source
  */
 
 /** @type {Source} */
-export const NO_SOURCE = {
-  document: "", exercise: "", question: "", isHidden: false, isChanged: false,
-};
+export const NO_SOURCE = Object.freeze({ document: "", exercise: "", question: "", isChanged: false });
 
 // What is kept of each row: bits of `marks`.
 const ALARM = 1;
 const CHANGE = 2;
-
-const FREE = 0o77777;
-const MOST_RUNNING = 0o37777;
-
-/**
- * The tasks that wait by these words, as `sceneOf` has them, which takes several times as long.
- * @param {Uint16Array} words
- */
-function waiting(words) {
-  const found = [];
-  let left = words[90] === 0 ? 0 : 16384 - words[90];
-  for (let k = 0; k < 9 && words[99 + 2 * k] !== 0; k++) {
-    const gap = k === 0 ? 1 : words[90 + k];
-    left += 1 - (gap <= MOST_RUNNING ? gap : gap - FREE);
-    found.push({ at: words[99 + 2 * k], bank: words[100 + 2 * k], left });
-  }
-  return found;
-}
 
 /** A machine, and since which request each of its jobs and tasks is there. */
 class Witness {
@@ -91,9 +70,9 @@ class Witness {
   constructor(machine) {
     this.machine = machine;
     /** Since which row each job is there, by number: twice it, and 1 more where an era began so. */
-    this.born = new Float64Array(9);
+    this.born = new Float64Array(NUMBERS.MOST_SETS + 1);
     /** At which address each job began, by number. */
-    this.from = new Uint16Array(9);
+    this.from = new Uint16Array(NUMBERS.MOST_SETS + 1);
     /** @type {HeldTask[]} */
     this.tasks = [];
     this.living = 0;
@@ -125,52 +104,44 @@ class Witness {
     return /** @type {Witness} */ (made);
   }
 
-  /**
-   * Looks at the words as they are after a row.
-   * @param {number} row
-   * @param {boolean} beginsEra
-   * @param {boolean} movesTasks
-   */
+  /** Looks at the tables as they are after a row. @param {number} row @param {boolean} beginsEra @param {boolean} movesTasks */
   look(row, beginsEra, movesTasks) {
-    const { words } = this.machine;
+    const { sets, areas, tasks, running } = this.machine.scene();
     let living = 0;
     let used = 0;
-    for (let k = 0; k < words.length - 11; k += k === 72 ? 60 : 12) {
-      if (words[k + 11] !== FREE) {
-        living |= 1 << words[k];
-        used += 1;
-      }
+    for (const job of sets) {
+      if (job === null) continue;
+      living |= 1 << job.number;
+      used += 1;
     }
     const fresh = beginsEra ? living : living & ~this.living;
     const gone = beginsEra ? 0 : this.living & ~living;
     if (beginsEra) [this.begun, this.ended] = [0, 0];
-    if (fresh !== 0) this.lookFrom(words, fresh);
-    for (let job = 1; (fresh | gone) !== 0 && job <= 8; job++) {
+    for (const job of fresh === 0 ? [] : sets) {
+      if (job !== null && (fresh >> job.number) & 1) this.from[job.number] = job.at;
+    }
+    for (let job = 1; (fresh | gone) !== 0 && job < this.born.length; job++) {
       if ((fresh >> job) & 1) this.born[job] = 2 * row + (beginsEra ? 1 : 0);
       this.begun += (fresh >> job) & 1;
       this.ended += (gone >> job) & 1;
     }
-    if (movesTasks) this.tasks = this.tasksIn(waiting(words), row, beginsEra);
+    if (movesTasks) this.tasks = this.tasksIn(tasks, row, beginsEra);
     if (this.lanes !== null) {
-      this.lanes.lookAtJobs(row, words, beginsEra);
-      if (movesTasks) this.lanes.lookAtTasks(row, this.tasks, beginsEra);
+      this.lanes.lookAtJobs(2 * row + 1, sets, beginsEra);
+      if (movesTasks) this.lanes.lookAtTasks(2 * row + 1, this.tasks, beginsEra);
     }
     this.living = living;
-    this.running = words[11] <= MOST_RUNNING ? words[0] : 0;
-    let areas = 0;
-    for (let k = 84; k < 89; k++) if (words[k] === 0) areas += 1;
-    this.use = used | (areas << 4) | (this.tasks.length << 8) | (this.running === 0 ? 1 << 12 : 0);
+    this.running = running;
+    const owned = areas.reduce((count, owner) => count + (owner === 0 ? 0 : 1), 0);
+    this.use = used | (owned << 4) | (this.tasks.length << 8) | (running === 0 ? 1 << 12 : 0);
   }
 
-  /**
-   * Notes at which addresses these jobs begin.
-   * @param {Uint16Array} words
-   * @param {number} fresh
-   */
-  lookFrom(words, fresh) {
-    for (let k = 0; k < words.length - 11; k += k === 72 ? 60 : 12) {
-      if (words[k + 11] !== FREE && (fresh >> words[k]) & 1) this.from[words[k]] = words[k + 8];
-    }
+  /** Looks at what was there as a request was answered, before an era began with it. @param {number} row */
+  lookAtMoment(row) {
+    if (this.lanes === null) return;
+    const { sets, tasks } = sceneOf(this.machine.moment);
+    this.lanes.lookAtJobs(2 * row, sets, false);
+    this.lanes.lookAtTasks(2 * row, this.tasksIn(tasks, row, false), false);
   }
 
   /**
@@ -191,51 +162,34 @@ class Witness {
     });
   }
 
-  /**
-   * Asks a request that is served, and looks at what came of it.
-   * @param {string} line
-   * @param {number} row
-   */
+  /** Asks a request that is served, and looks at what came of it. @param {string} line @param {number} row */
   ask(line, row) {
     const step = this.machine.ask(line);
     this.took(step, row);
     return step;
   }
 
-  /**
-   * Looks at what came of a request. A centisecond in which no task is due changes only the time.
-   * @param {StepType} step
-   * @param {number} row
-   */
+  /** Looks at what came of a request. A centisecond in which no task is due changes only the time. @param {StepType} step @param {number} row */
   took(step, row) {
     this.served += 1;
     this.log += 1;
     if (step.kind === Kind.TICKED || step.kind === Kind.TICK_ALARMED) this.now += 1;
     if (step.kind === Kind.TICKED && step.fired.length === 0) return;
     const beginsEra = step.beginsEra;
+    if (beginsEra) this.lookAtMoment(row);
     this.look(row, beginsEra, beginsEra || step.kind === Kind.LISTED || step.fired.length > 0);
     if (beginsEra) [this.log, this.era, this.eraTicks] = [0, row, this.now];
   }
 }
 
-/**
- * Whether a request changed more than the time.
- * @param {StepType} step
- * @param {string} line
- * @param {number} before
- * @param {number} after
- */
+/** Whether a request changed more than the time. @param {StepType} step @param {string} line @param {number} before @param {number} after */
 function isChange(step, line, before, after) {
   if (step.kind === Kind.RUNS) return before !== after || line.startsWith("prio");
   if (step.kind === Kind.TICKED) return step.fired.length > 0;
   return step.kind !== Kind.NO_JOB && step.kind !== Kind.NO_SLEEPER;
 }
 
-/**
- * What is there after the restart that a row ended with.
- * @param {Shown} shown
- * @returns {Shown}
- */
+/** What is there after the restart that a row ended with. @param {Shown} shown @returns {Shown} */
 export function afterOf(shown) {
   const { row, after, scene, afterWords } = shown;
   if (after === null) return shown;
@@ -247,10 +201,7 @@ export function afterOf(shown) {
     jobsSince: jobs, jobsFrom: from };
 }
 
-/**
- * Whether it is the clock that asks, or one of its events.
- * @param {string} who
- */
+/** Whether it is the clock that asks, or one of its events. @param {string} who */
 export function isClock(who) {
   return /^the clock|^event/.test(who);
 }
@@ -268,6 +219,10 @@ export class Run {
     this.source = NO_SOURCE;
     /** Whether it was made of all of the document, and isn't a copy of another run. */
     this.isOpened = false;
+    /** Whether its clock has more to ask for, which comes in the background. */
+    this.isFilling = false;
+    /** The requests that are still to be asked, where it repeats those of another run. */
+    this.pending = /** @type {Generator<[string, string]> | null} */ (null);
     /** @type {string[]} */
     this.lines = [""];
     /** Who asked, by number. */
@@ -294,16 +249,12 @@ export class Run {
     this.checkpoints = [this.head.copy()];
   }
 
-  /**
-   * Why a request isn't served, after so many more: `SPENT`, `LOG_FULL`, or 0, as the module says.
-   * @param {string} line
-   * @param {number} [more]
-   */
+  /** Why a request isn't served, after so many more: `SPENT`, `LOG_FULL`, or 0, as the module says. @param {string} line @param {number} [more] */
   refusal(line, more = 0) {
     const { served, log } = this.head;
     const { limit, allowance } = this.bench;
     const counts = { served: served + more, logged: log + more };
-    return REFUSED[refusalOf(line, { ...counts, limit, allowance })];
+    return REFUSED[/** @type {keyof typeof REFUSED} */ (refusalOf(line, { ...counts, limit, allowance }))];
   }
 
   /** @param {string} who */
@@ -327,10 +278,7 @@ export class Run {
     return step;
   }
 
-  /**
-   * Whether the clock may ask so many requests before the log is full or the allowance is used up.
-   * @param {number} most
-   */
+  /** Whether the clock may ask so many requests before the log is full or the allowance is used up. @param {number} most */
   hasRoomFor(most) {
     return this.refusal("tick", most) === 0;
   }
@@ -359,14 +307,7 @@ export class Run {
     return most - left;
   }
 
-  /**
-   * Keeps a row.
-   * @param {string} line
-   * @param {number} asker
-   * @param {StepType | null} step
-   * @param {number} refused
-   * @param {number} before who ran
-   */
+  /** Keeps a row. @param {string} line @param {number} asker @param {StepType | null} step @param {number} refused @param {number} before who ran */
   note(line, asker, step, refused, before) {
     const row = this.count + 1;
     const { kinds, numbers, by, marks, ticks, uses } = this.columns;
@@ -385,11 +326,7 @@ export class Run {
     if (row % APART === 0) this.checkpoints.push(this.head.copy());
   }
 
-  /**
-   * An event with several requests is one mark.
-   * @param {number} row
-   * @param {number} asker
-   */
+  /** An event with several requests is one mark. @param {number} row @param {number} asker */
   noteEvent(row, asker) {
     const { count, rows, by } = this.lanes.events;
     const last = count === 0 ? -1 : rows.items[count - 1];
@@ -398,59 +335,46 @@ export class Run {
     if (!isSame) this.lanes.event(row, asker);
   }
 
-  /**
-   * The witness as it was after a row: to show it, or with its clock, to go on from there.
-   * @param {number} row
-   * @param {boolean} goesOn
-   */
+  /** The witness as it was after a row: to show it, or with its clock, to go on from there. @param {number} row @param {boolean} goesOn */
   stateAt(row, goesOn = false) {
     const k = Math.floor(row / APART);
     const state = this.checkpoints[k].copy();
     if (!goesOn) state.clock = null;
     this.changeAt(state, k * APART);
-    for (let at = k * APART + 1; at <= row; at++) {
+    this.replay(state, k * APART + 1, row);
+    return state;
+  }
+
+  /** Asks a state for these rows once more. @param {Witness} state @param {number} from @param {number} to */
+  replay(state, from, to) {
+    for (let at = from; at <= to; at++) {
       if (this.columns.kinds.items[at] >= SPENT) continue;
       if (state.clock !== null && this.isByClock(at)) state.clock.next(state.machine);
       const step = state.ask(this.lines[at], at);
       state.clock?.served(state.machine, step);
       this.changeAt(state, at);
     }
-    return state;
   }
 
-  /**
-   * Gives a state's clock the timetable that it was given after a row.
-   * @param {Witness} state
-   * @param {number} row
-   */
+  /** Gives a state's clock the timetable that it was given after a row. @param {Witness} state @param {number} row */
   changeAt(state, row) {
     if (state.clock === null) return;
     for (const it of this.changes) if (it.row === row) state.clock.change(it.given);
   }
 
-  /**
-   * Gives the clock another timetable, from the last row on.
-   * @param {any} bench what that makes of the bench
-   * @param {any} given
-   */
+  /** Gives the clock another timetable, from the last row on. @param {any} bench what that makes of the bench @param {any} given */
   change(bench, given) {
     this.changes.push({ row: this.count, given, before: this.bench });
     this.bench = { ...this.bench, ...bench };
     this.head.clock.change(given);
   }
 
-  /**
-   * Whether a row was asked by the clock, or by one of its events.
-   * @param {number} row
-   */
+  /** Whether a row was asked by the clock, or by one of its events. @param {number} row */
   isByClock(row) {
     return isClock(this.whoAsked(row));
   }
 
-  /**
-   * A run of its own with the rows up to this one.
-   * @param {number} row
-   */
+  /** A run of its own with the rows up to this one. @param {number} row */
   fork(row) {
     const made = Object.create(Run.prototype);
     Object.assign(made, this, { isOpened: false });
@@ -467,24 +391,17 @@ export class Run {
     made.head = this.stateAt(row, true);
     made.lanes = this.lanes.front(row);
     made.head.lanes = made.lanes;
+    Object.assign(made, { isFilling: false, pending: null });
     made.checkpoints = this.checkpoints.slice(0, Math.floor(row / APART) + 1);
     return /** @type {Run} */ (made);
   }
 
-  /**
-   * The requests of the first rows, and who asked each.
-   * @param {number} count
-   * @returns {Generator<[string, string]>}
-   */
+  /** The requests of the first rows, and who asked each. @param {number} count @returns {Generator<[string, string]>} */
   *requests(count) {
     for (let row = 1; row <= count; row++) yield [this.lines[row], this.whoAsked(row)];
   }
 
-  /**
-   * Asks at most so many of these requests. True where there are no more.
-   * @param {Iterator<[string, string]>} asked
-   * @param {number} most
-   */
+  /** Asks at most so many of these requests. True where there are no more. @param {Iterator<[string, string]>} asked @param {number} most */
   askSome(asked, most) {
     for (let k = 0; k < most; k++) {
       const next = asked.next();
@@ -494,10 +411,7 @@ export class Run {
     return false;
   }
 
-  /**
-   * How many of the first rows each one asked.
-   * @param {number} count
-   */
+  /** How many of the first rows each one asked. @param {number} count */
   counts(count) {
     const found = new Uint32Array(this.who.length);
     for (let row = 1; row <= count; row++) found[this.columns.by.items[row]] += 1;
@@ -517,10 +431,7 @@ export class Run {
       || bench.sets !== given.sets || bench.task !== given.task;
   }
 
-  /**
-   * How many of the first rows were asked by hand.
-   * @param {number} count
-   */
+  /** How many of the first rows were asked by hand. @param {number} count */
   handRows(count = this.count) {
     const isHand = this.who.map((it) => it.startsWith("you"));
     if (!isHand.includes(true)) return 0;
@@ -571,20 +482,13 @@ export class Run {
     return count === 0 ? 0 : Math.floor((100 * idle) / count);
   }
 
-  /**
-   * How much of each table is used after a row.
-   * @param {number} row
-   */
+  /** How much of each table is used after a row. @param {number} row */
   useAt(row) {
     const use = this.columns.uses.items[row];
     return { sets: use & 15, areas: (use >> 4) & 15, tasks: (use >> 8) & 15, idle: use >> 12 };
   }
 
-  /**
-   * The first row from which on so many ticks were served.
-   * @param {number} ticks
-   * @param {number} count how many rows there are to look at
-   */
+  /** The first row from which on so many ticks were served. @param {number} ticks @param {number} count how many rows there are to look at */
   rowAtTime(ticks, count) {
     let [low, high] = [0, count];
     while (low < high) {
@@ -595,12 +499,7 @@ export class Run {
     return low;
   }
 
-  /**
-   * The rows from one to another, with all that is shown of them.
-   * @param {number} from
-   * @param {number} to
-   * @returns {Shown[]}
-   */
+  /** The rows from one to another, with all that is shown of them. @param {number} from @param {number} to @returns {Shown[]} */
   show(from, to) {
     const found = [];
     const state = this.stateAt(Math.max(from - 1, 0));
@@ -609,10 +508,7 @@ export class Run {
     return found;
   }
 
-  /**
-   * @param {Witness} state
-   * @returns {Shown}
-   */
+  /** @param {Witness} state @returns {Shown} */
   showFirst(state) {
     const scene = state.machine.scene();
     const isBroken = scene.codes[0] !== 0;
@@ -663,11 +559,41 @@ export class Run {
         job === null ? 0 : (living >> job.number) & 1 ? born[job.number] : 2 * row),
       jobsFrom: scene.sets.map((job) =>
         job === null ? 0 : (living >> job.number) & 1 ? from[job.number] : job.at),
-      tasksSince: tasks.map((it) => it.since),
+      tasksSince: tasks.map((/** @type {HeldTask} */ it) => it.since),
       ticks: state.now,
       time: state.now - eraTicks,
       afterWords: state.machine.words,
       ...{ era, begun: begun + fresh.length, ended },
     };
+  }
+}
+
+/** The rows that were looked at last, which are few: a step along a run asks for few anew. */
+export class Rows {
+  /** @param {Run} run */
+  constructor(run) {
+    this.run = run;
+    /** @type {Map<number, Shown>} */
+    this.found = new Map();
+    /** The machine as it is before row `next`. */
+    this.state = /** @type {Witness | null} */ (null);
+    this.next = 0;
+  }
+
+  /** A row with all that is shown of it. @param {number} row @returns {Shown} */
+  at(row) {
+    const known = this.found.get(row);
+    if (known !== undefined) return known;
+    if (this.found.size >= MOST_SEEN) this.found.clear();
+    if (this.state === null || row < this.next || row > this.next + APART) {
+      this.state = this.run.stateAt(Math.max(row - 1, 0));
+      this.next = Math.max(row, 1);
+    }
+    const { state } = this;
+    if (row > 0) this.run.replay(state, this.next, row - 1);
+    const shown = row === 0 ? this.run.showFirst(state) : this.run.showNext(state, row);
+    this.next = row + 1;
+    this.found.set(row, shown);
+    return shown;
   }
 }

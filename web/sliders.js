@@ -3,8 +3,12 @@
  * that is moved asks for its change at once, step by step. And how a run differs from its document,
  * in one line, with since when.
  */
-import { by, fill, make } from "./dom.js";
+import { isWhole } from "./actions.js";
+import { outcomeOf } from "./chart.js";
+import { assign, attribute, by, fill, make, set } from "./dom.js";
+import { act, differ, isHidden } from "./state.js";
 import { partsOf } from "./stolen.js";
+import { keepStrips, stripOf } from "./strips.js";
 import { seconds, visible } from "./words.js";
 
 /** The most sliders of jobs and of periods. */
@@ -13,8 +17,9 @@ const MOST_PERIODS = 8;
 
 /**
  * @typedef {import("./run.js").Run} Run
+ * @typedef {import("./state.js").State} State
  * @typedef {{ name: string, own: string, value: number, min: number, max: number, unit: string,
- *   what: string, given: (value: number) => any }} Number
+ *   what: string, given: (value: number) => any }} SliderNumber
  */
 
 /** What the sliders are about. */
@@ -32,7 +37,7 @@ const AGAIN = /^list ([0-9]+) ([0-7]{5}) ([0-7]{5})$/;
 /**
  * How often tasks come that list themselves again, and events that have a period.
  * @param {import("./bench.js").Bench} bench
- * @returns {Number[]}
+ * @returns {SliderNumber[]}
  */
 function periodsOf({ task, event }) {
   const tasks = task.flatMap((row, k) => row.action.map((line, n) => ({ row, k, n, found: AGAIN.exec(line) })))
@@ -56,19 +61,16 @@ function periodsOf({ task, event }) {
 /**
  * Numbers of one name by more than their names: by whose they are, or if that is said twice, too, by
  * their places.
- * @param {Number[]} numbers
+ * @param {SliderNumber[]} numbers
  */
 function toldApart(numbers) {
-  const isTwice = (/** @type {Number[]} */ all, /** @type {Number} */ one) =>
+  const isTwice = (/** @type {SliderNumber[]} */ all, /** @type {SliderNumber} */ one) =>
     all.filter((it) => it.name === one.name).length > 1;
   const named = numbers.map((it) => (isTwice(numbers, it) ? { ...it, name: `${it.name} (${it.own})` } : it));
   return named.map((it, k) => (isTwice(named, it) ? { ...it, name: `${it.name}, ${k + 1}` } : it));
 }
 
-/**
- * @param {import("./bench.js").Bench} bench
- * @returns {Number[]}
- */
+/** @param {import("./bench.js").Bench} bench @returns {SliderNumber[]} */
 function numbersOf(bench) {
   const { seed, steal, job } = bench;
   const now = typeof steal === "number" ? steal : partsOf(steal).once.at(-1)?.percent ?? 0;
@@ -90,87 +92,109 @@ function numbersOf(bench) {
   return toldApart([stolen, ...costs, ...lots, ...periodsOf(bench), sets]);
 }
 
-export class Sliders {
-  /** @param {(given: any, name: string) => void} change */
-  constructor(change) {
-    this.change = change;
-    /** @type {Map<string, { field: any, output: any, number: Number }>} */
-    this.shown = new Map();
-    this.due = 0;
-  }
+/** The sliders that are there, by name: its box, field, output, button, and number. @type {Map<string, { box: any, field: any, output: any, button: any, number: SliderNumber }>} */
+const rows = new Map();
 
-  /**
-   * Draws the sliders of a run: those that are there already stay, so that one that is moved isn't
-   * taken away.
-   * @param {Run} run
-   */
-  draw(run) {
-    const numbers = numbersOf(run.bench);
-    const isSame = numbers.length === this.shown.size
-      && numbers.every((it) => this.shown.get(it.name)?.number.max !== undefined);
-    if (!isSame) {
-      this.shown.clear();
-      fill("sliders", numbers.map((it) => this.row(it)));
-    }
-    for (const it of numbers) this.set(it);
-  }
+/** The slider that is held, and the frame in which it asks. */
+const held = { field: /** @type {any} */ (null), due: 0 };
 
-  /** @param {Number} number */
-  set(number) {
-    const shown = this.shown.get(number.name);
-    if (shown === undefined) return;
-    shown.number = number;
-    const { field, output } = shown;
-    const isMoved = this.due !== 0 && field === this.moved;
-    if (isMoved) return;
-    // (a slider that is held keeps its bounds)
-    if (field !== this.moved) [field.min, field.max] = [number.min, number.max];
-    field.value = String(number.value);
-    this.tell(field, output, number);
-  }
+/** @param {SliderNumber} number */
+function draw(number) {
+  const row = rows.get(number.name);
+  if (row === undefined) return;
+  row.number = number;
+  // (a slider that is held keeps its bounds, and its value until it has asked)
+  if (row.field === held.field && held.due !== 0) return;
+  if (row.field !== held.field) assign(row.field, { min: String(number.min), max: String(number.max) });
+  assign(row.field, { value: String(number.value) });
+  tell(row);
+}
 
-  /** @param {any} field @param {any} output @param {Number} number */
-  tell(field, output, { unit }) {
-    const text = unit === "" ? field.value : `${field.value} ${unit}`;
-    output.textContent = text;
-    field.setAttribute("aria-valuetext", text);
-  }
+/** @param {{ field: any, output: any, number: SliderNumber }} row */
+function tell({ field, output, number: { unit } }) {
+  const text = unit === "cs" ? seconds(Number(field.value)) : unit === "" ? field.value : `${field.value} ${unit}`;
+  set(output, text);
+  attribute(field, "aria-valuetext", text);
+}
 
-  /** @param {Number} number */
-  row(number) {
-    const output = make("output", {});
-    const { name, min, max, what } = number;
-    const field = make("input", { type: "range", min, max, step: 1, "aria-label": name });
-    field.value = String(number.value);
-    this.shown.set(name, { field, output, number });
-    field.addEventListener("input", () => {
-      this.tell(field, output, number);
-      this.moved = field;
-      // (one change a frame: what the hand does in between is passed over)
-      if (this.due === 0) this.due = requestAnimationFrame(() => this.ask(name));
-    });
-    field.addEventListener("change", () => {
-      cancelAnimationFrame(this.due);
-      this.ask(name);
-      this.moved = null;
-    });
-    return make("label", { title: what }, make("span", {}, name), field, output);
-  }
+/** @param {SliderNumber} number */
+function rowOf(number) {
+  const output = make("output", {});
+  const { name, min, max, what, value } = number;
+  const field = make("input", { type: "range", min, max, step: 1, "aria-label": name });
+  field.value = String(value);
+  const button = make("button", { type: "button", class: "quiet over", title: "When the first alarm comes, over all values",
+    "aria-label": `The first alarm over all values of ${name}`, onclick: () => act("sweep", name) });
+  const box = make("div", {}, make("label", { title: what }, make("span", {}, name), field, output), button);
+  const row = { box, field, output, button, number };
+  rows.set(name, row);
+  field.addEventListener("input", () => {
+    tell(row);
+    held.field = field;
+    // (one change a frame: what the hand does in between is passed over)
+    if (held.due === 0) held.due = requestAnimationFrame(() => ask(name));
+  });
+  field.addEventListener("change", () => {
+    cancelAnimationFrame(held.due);
+    ask(name);
+    held.field = null;
+  });
+  return box;
+}
 
-  /** @param {string} name */
-  ask(name) {
-    this.due = 0;
-    const shown = this.shown.get(name);
-    if (shown === undefined) return;
-    const value = Number(shown.field.value);
-    if (value !== shown.number.value) this.change(shown.number.given(value), name);
+/** The strips under the sliders that have one. @param {State} now */
+function drawStrips(now) {
+  const { run: { bench }, swept } = now;
+  const isSwept = (/** @type {SliderNumber} */ it) => bench.seconds !== undefined && !isHidden(now) && it.own !== "7 or 8";
+  keepStrips(swept);
+  for (const [name, { box, button, number }] of rows) {
+    const isOpen = isSwept(number) && swept.includes(name);
+    assign(button, { hidden: !isSwept(number) });
+    attribute(button, "aria-expanded", String(isOpen));
+    assign(box, { className: isOpen ? "wide-slider" : "" });
+    const strip = box.querySelector(".swept");
+    if (isOpen) {
+      const made = stripOf(bench, number);
+      if (made !== strip) box.append(made);
+    } else strip?.remove();
   }
 }
 
-/**
- * The history of a number: `0 until 30.50 s, then 15`.
- * @param {{ from: number, value: string }[]} rows
- */
+/** @param {string} name */
+function ask(name) {
+  held.due = 0;
+  const row = rows.get(name);
+  const value = Number(row?.field.value);
+  if (row !== undefined && value !== row.number.value) act("change", row.number.given(value), undefined, name);
+}
+
+/** The sliders of a run, what came of it beside what was, and how it differs from its document. @param {State} now @param {State} before */
+export function whatIf(now, before) {
+  const { run, count, at, before: older } = now;
+  if (differ(now, before, "run")) {
+    const numbers = numbersOf(run.bench);
+    const isSame = numbers.length === rows.size && numbers.every((it) => rows.has(it.name));
+    if (!isSame) {
+      rows.clear();
+      fill("sliders", numbers.map(rowOf));
+    }
+    numbers.forEach(draw);
+    set(by("differs"), differencesOf(run));
+  }
+  if (differ(now, before, "run", "swept", "hidden")) drawStrips(now);
+  if (differ(now, before, "run", "count", "before", "hidden")) {
+    const told = older === null || isHidden(now) ? [] : [`Before: ${outcomeOf(older.run, older.count)}.`, `Now: ${outcomeOf(run, count)}.`];
+    if (by("outcome").textContent !== told.join(" ")) fill("outcome", told.flatMap((it, k) => [k === 0 ? "" : " ", make("span", {}, it)]));
+  }
+  if (!differ(now, before, "run", "at", "clock")) return;
+  const isFromHere = !isWhole(now) && at > 0;
+  const from = !isFromHere ? "the beginning" : run.ticksAt(at) > 0 ? seconds(run.ticksAt(at)) : `request ${at}`;
+  set(by("since"), `Sliders act from ${from} on.`);
+  assign(by("since-box"), { className: isFromHere || now.clock.isHere ? "since later" : "since" });
+  assign(by("here-box"), { hidden: run.bench.seconds === undefined || at === 0 });
+}
+
+/** The history of a number: `0 until 30.50 s, then 15`. @param {{ from: number, value: string }[]} rows */
 function historyOf(rows) {
   const kept = rows.filter((it, k) => k === 0 || it.value !== rows[k - 1].value);
   return kept.map(({ value }, k) => (k + 1 < kept.length ? `${value} until ${seconds(kept[k + 1].from)}` : value))
@@ -212,10 +236,7 @@ function costText(cost) {
   return typeof cost === "object" ? `${cost.from} to ${cost.to}` : String(cost);
 }
 
-/**
- * How a run differs from its document, in full; nothing where it doesn't.
- * @param {Run} run
- */
+/** How a run differs from its document, in full; nothing where it doesn't. @param {Run} run */
 export function differencesOf(run) {
   const { bench, given } = run;
   const found = [];

@@ -1,335 +1,252 @@
 /**
- * The chart: counts in a thin strip to navigate by, and below it the lanes, which are zoomed by
- * wheel, pinch, keys and a drawn range. What is pointed at is told in words, and a click goes there.
- * After a change the run before is drawn below, until it is dismissed.
+ * The chart on the page: it is painted where another run, part or size is shown; the row that is shown is
+ * a line over it. What is pointed at is told beside the pointer; a click goes there and shows what asked
+ * for it; Ctrl and the wheel, two fingers, keys and a drawn range zoom; edges of the budget are dragged.
  */
-import { Strip, drawAxis, drawLegend, drawStrip } from "./chart.js";
-import { by, fill, make } from "./dom.js";
-import { Scale, drawLanes, laneNames, tellAt } from "./timeline.js";
+import { paint } from "./drawing-canvas.js";
+import { summaryOf } from "./chart.js";
+import { PARTS, hitAt, pictureOf, placeAtX, xOfRow } from "./drawing.js";
+import { assign, attribute, by, fill, make, set } from "./dom.js";
+import { act, coloursOf, differ, isHidden, namesOf, scaleOf, state } from "./state.js";
+import { seconds } from "./words.js";
 
-/** How many points wide the pictures of the strip are computed for. */
-const STRIP_WIDE = 1200;
+/** @typedef {import("./state.js").State} State @typedef {ReturnType<typeof pictureOf>} Picture */
 
 /** How far the pointer goes before a click becomes a range, in points. */
 const LEAST_DRAWN = 6;
 
-/** What is seen around an alarm: the part of what is seen before it, and after, in ticks. */
-const AROUND_ALARM = [1100, 350];
-
-/** How wide the lanes are on paper, in points. */
+/** How wide the picture is on paper, in points. */
 const PAPER_WIDE = 980;
 
-/** How much closer one step zooms. */
-const STEP = 1.5;
+/** How often the chart is painted while rows are added, in milliseconds. */
+const PAINTED_EACH = 300;
 
-export class Stage {
-  /** @param {any} workbench */
-  constructor(workbench) {
-    this.workbench = workbench;
-    /** @type {Scale | null} */
-    this.scale = null;
-    /** @type {Strip | null} */
-    this.strip = null;
-    /** The pointers that are down, by number: where each began, and where it is. */
-    this.pointers = new Map();
-    this.parts = /** @type {any} */ (null);
-    this.hear();
-  }
+/** How many jobs of a lane are told in words. */
+const MOST_TOLD = 8;
 
-  /** How high a core set is drawn, in points. */
-  get high() {
-    const rem = parseFloat(getComputedStyle(document.documentElement).fontSize);
-    const isPhone = window.innerWidth <= 40 * rem;
-    const isLow = window.innerHeight < 50 * rem;
-    return Math.round((isPhone ? 0.62 : isLow ? 0.75 : 0.9) * rem);
-  }
+/** What was painted last. */
+const drawn = { picture: /** @type {Picture | null} */ (null), time: 0 };
 
-  /** A run is shown: what was seen of the one before is seen of it, too. */
-  draw() {
-    const { run, count } = this.workbench.view;
-    if (count === 0) {
-      this.scale = null;
-      return;
+/** The pointers that are down, by number; whether a range was drawn; the edge that is held. */
+const hand = { pointers: new Map(), isDrawn: false, edge: /** @type {any} */ (null), due: 0 };
+
+export function themeNow() {
+  if (matchMedia("(forced-colors: active)").matches) return "forced";
+  return matchMedia("(prefers-color-scheme: dark)").matches ? "dark" : "light";
+}
+
+/** How large lanes and text are: as the page's text is. */
+function sizes() {
+  if (window.innerWidth <= 640) return { high: 19, text: 12, strips: ["areas"] };
+  const size = parseFloat(getComputedStyle(document.documentElement).fontSize);
+  return { high: Math.round(1.87 * size), text: Math.round(0.8 * size), parts: [...PARTS, "legend"] };
+}
+
+/** @param {State} now @param {number} width @param {"light" | "dark" | "forced"} theme */
+function pictureNow(now, width, theme) {
+  const { run, count, opened, selection, before } = now;
+  const { from, to } = scaleOf(now);
+  return pictureOf(run, count, { width, from, to, opened, selection, before, theme, names: namesOf(run), colours: coloursOf(run), ...sizes() });
+}
+
+/** Whether rows were added that needn't be painted yet. @param {State} now */
+function canWait(now) {
+  const { picture, time } = drawn;
+  if (picture === null || picture.run !== now.run) return false;
+  const isPast = now.seen !== null && scaleOf({ ...now, count: picture.count }).to >= now.seen.to && now.run.ticksAt(picture.count) >= now.seen.to;
+  return isPast || (now.seen === null && now.run.isFilling) || ((now.clock.isRunning || now.run.isFilling) && performance.now() - time < PAINTED_EACH);
+}
+
+/** @param {State} now @param {State} before */
+export function chart(now, before) {
+  const isThere = now.count > 0 && !isHidden(now);
+  assign(by("chart-box"), { hidden: !isThere });
+  by("chart-box").dataset.filling = now.run.isFilling ? "yes" : "no";
+  assign(by("slider"), { max: String(now.count), value: String(now.at) });
+  attribute(by("slider"), "aria-valuetext", `request ${now.at} of ${now.count}`);
+  if (!isThere) return;
+  if (differ(now, before, "run", "count", "hidden")) set(by("summary"), summaryOf(now.run, now.count));
+  const isOther = differ(now, before, "run", "seen", "opened", "selection", "before", "hidden", "isProjected", "isEmbedded");
+  if (isOther || drawn.picture === null || (drawn.picture.count !== now.count && !canWait(now))) paintNow(now);
+  if (differ(now, before, "at") || isOther) drawAt(now);
+}
+
+/** @param {State} now */
+function paintNow(now) {
+  const canvas = by("lanes-chart");
+  const picture = pictureNow(now, by("lanes-box").clientWidth, themeNow());
+  paint(canvas, picture);
+  Object.assign(drawn, { picture, time: performance.now() });
+  const { from, to, isWhole } = picture.scale;
+  by("chart-box").dataset.seen = `${Math.round(from)}-${Math.round(to)}`;
+  assign(by("fit"), { disabled: isWhole });
+  assign(by("dismiss"), { hidden: now.before === null });
+  for (const id of ["cursor", "range"]) Object.assign(by(id).style, { top: `${picture.plot.top}px`, height: `${picture.plot.bottom - picture.plot.top}px` });
+  tellLanes(now, picture);
+  drawAt(now);
+}
+
+/** What each lane holds, for those who hear the page. @param {State} now @param {Picture} picture */
+function tellLanes({ run, count }, { scale }) {
+  const names = namesOf(run);
+  const when = (/** @type {number} */ row) => (scale.isTime ? seconds(run.ticksAt(row)) : `request ${row}`);
+  const rows = run.lanes.sets.map((lane, k) => {
+    const told = [];
+    let last = 0;
+    for (let n = 0; n < lane.count && told.length < MOST_TOLD; n++) {
+      const block = run.lanes.block(k, n);
+      if (block === null || block.id === last) continue;
+      const [from, to] = [block.from >> 1, block.to >> 1 || count];
+      if (scale.placeOf(to) < scale.from || scale.placeOf(from) > scale.to || from > count) continue;
+      last = block.id;
+      told.push(`${names.job(block.at) ?? `job ${block.number}`} from ${when(from)}`);
     }
-    const before = this.scale;
-    this.scale = new Scale(run, count);
-    if (before !== null && before.run.source === run.source) this.scale.like(before);
-    this.strip = new Strip(run, count, STRIP_WIDE);
-    drawLegend(this.strip);
-    this.drawSeen();
-  }
+    return `Core set ${k}: ${told.length === 0 ? "free" : told.join(", ")}${told.length === MOST_TOLD ? ", and so on" : ""}.`;
+  });
+  const list = by("lane-list");
+  if (list.childElementCount !== rows.length) fill(list, rows.map(() => make("li")));
+  rows.forEach((it, k) => set(list.children[k], it));
+}
 
-  /** Draws all that hangs on which part is seen. */
-  drawSeen() {
-    const { scale, strip, workbench } = this;
-    if (scale === null || strip === null || by("chart-box").hidden) return;
-    drawStrip(strip);
-    this.parts = drawLanes(by("lanes-chart"), scale, workbench.colours, { high: this.high, isBrief: false });
-    const { before } = workbench;
-    for (const id of ["before-box", "before-name", "dismiss"]) by(id).hidden = before === null;
-    if (before !== null) {
-      const other = new Scale(before.run, before.count);
-      if (other.isTime === scale.isTime) [other.from, other.to] = [scale.from, scale.to];
-      drawLanes(by("before-chart"), other, workbench.colours,
-        { high: Math.max(6, Math.round(this.high * 0.5)), isBrief: true });
-    }
-    drawAxis(scale);
-    this.drawNames();
-    this.drawWindow();
-    this.drawAt(workbench.view.at);
-  }
+/** @param {State} now */
+function drawAt({ at }) {
+  const { picture } = drawn;
+  if (picture === null) return;
+  const x = xOfRow(picture, at);
+  assign(by("cursor"), { hidden: x < picture.plot.left - 1 || x > picture.plot.right + 1 });
+  by("cursor").style.left = `${x}px`;
+}
 
-  /**
-   * Draws for paper what is seen of the run.
-   * @param {HTMLCanvasElement} canvas
-   */
-  print(canvas) {
-    const { run, count } = this.workbench.view;
-    const isShown = count > 0 && !this.workbench.isHidden;
-    canvas.hidden = !isShown;
-    if (isShown) {
-      const scale = new Scale(run, count);
-      if (this.scale !== null) scale.like(this.scale);
-      drawLanes(canvas, scale, this.workbench.colours, { high: 16, isBrief: false, width: PAPER_WIDE });
-    }
-  }
+/** What is seen of the run, for paper, or as a picture of its own. @param {State} now */
+export function pictureSeen(now) {
+  const { run, count, opened, selection } = now;
+  const { from, to } = scaleOf(now);
+  return pictureOf(run, count, { width: PAPER_WIDE, from, to, opened, selection, high: 20, parts: [...PARTS, "legend"], names: namesOf(run), colours: coloursOf(run) });
+}
 
-  /** The names on the left of the lanes. */
-  drawNames() {
-    const { parts } = this;
-    const rows = laneNames(this.workbench.view.run.sets, parts);
-    fill("lane-names", rows.map(([name, y]) => {
-      const made = make("li", {}, name);
-      made.style.top = `${y}px`;
-      return made;
-    }));
-    by("lane-names").style.height = `${parts.end}px`;
-  }
+/** Where an event is on the picture. @param {MouseEvent} event @returns {[number, number]} */
+function pointOf(event) {
+  const box = by("lanes-chart").getBoundingClientRect();
+  return [event.clientX - box.left, event.clientY - box.top];
+}
 
-  /** Which part of the strip is seen below. */
-  drawWindow() {
-    const { scale } = this;
-    if (scale === null) return;
-    const { style } = by("window");
-    style.left = `${(100 * scale.from) / scale.end}%`;
-    style.width = `${(100 * (scale.to - scale.from)) / scale.end}%`;
-    by("window").hidden = scale.isWhole;
-    by("fit").disabled = scale.isWhole;
-  }
+/** How far across an event is, of the part where time runs. @param {number} x */
+function partOf(x) {
+  const { left, right } = /** @type {Picture} */ (drawn.picture).plot;
+  return Math.max(0, Math.min(1, (x - left) / (right - left)));
+}
 
-  /**
-   * Where the shown row is.
-   * @param {number} at
-   */
-  drawAt(at) {
-    const { scale } = this;
-    if (scale === null) return;
-    const place = scale.placeOf(at);
-    const part = scale.partOf(place);
-    by("cursor").hidden = part < 0 || part > 1;
-    by("cursor").style.left = `${100 * part}%`;
-    by("strip-cursor").style.left = `${(100 * place) / scale.end}%`;
-  }
+/** Tells what is at the pointer, beside it. @param {MouseEvent} event */
+function tell(event) {
+  const [x, y] = pointOf(event);
+  const hit = drawn.picture === null || isHidden(state()) ? null : hitAt(drawn.picture, x, y);
+  const block = by("block");
+  assign(block, { hidden: hit === null || hit.text === "" });
+  set(block, hit?.text ?? "");
+  by("lanes-chart").style.cursor = hit?.kind === "edge" ? "ew-resize" : hit?.kind === "open" ? "pointer" : "crosshair";
+  if (block.hidden) return hit;
+  const wide = by("lanes-box").clientWidth;
+  block.style.left = `${Math.max(0, Math.min(x + 14, wide - block.offsetWidth - 2))}px`;
+  block.style.top = `${y + 18}px`;
+  return hit;
+}
 
-  /**
-   * Keeps the shown row in sight, as the clock runs or one steps.
-   * @param {number} at
-   */
-  follow(at) {
-    const { scale } = this;
-    if (scale === null || scale.isWhole) return;
-    const part = scale.partOf(scale.placeOf(at));
-    if (part >= 0 && part <= 1) return;
-    const place = scale.placeOf(at);
-    const span = scale.to - scale.from;
-    scale.see(place - 0.3 * span, place + 0.7 * span);
-    this.drawSeen();
-  }
+/** A click goes to what is there, and shows what asked for it. @param {MouseEvent} event */
+function click(event) {
+  const hit = hand.isDrawn ? null : tell(event);
+  hand.isDrawn = false;
+  if (hit === null || hit === undefined) return;
+  if (hit.kind === "open" || (hit.kind === "strip" && ["areas", "tasks"].includes(hit.name ?? ""))) act("toggle", hit.name);
+  if (hit.kind === "job" || hit.kind === "task") act("select", { kind: hit.kind, id: hit.id });
+  if (hit.row !== undefined && hit.kind !== "open") act("go", hit.row);
+}
 
-  /** All of the run is seen. */
-  fit() {
-    if (this.scale === null) return;
-    this.scale.see(0, this.scale.end);
-    this.seen();
-  }
+/** Drags an edge of the budget, as its slider is moved. @param {number} x */
+function dragEdge(x) {
+  const { edge, from } = hand.edge;
+  const value = Math.max(edge.min, Math.min(edge.max, edge.value + Math.round((x - from) * edge.perPoint)));
+  if (hand.due !== 0) return;
+  hand.due = requestAnimationFrame(() => {
+    hand.due = 0;
+    const { bench } = state().run;
+    const given = edge.of === "steal" ? { steal: value }
+      : { job: bench.job.map((it, k) => (k === edge.job ? { ...it, cost: value } : it)) };
+    act("change", given, undefined, `the edge of ${edge.name}`);
+  });
+}
 
-  /** An alarm is seen with what came before it: the next one from here on, or else the first. */
-  toAlarm() {
-    const { scale, workbench } = this;
-    const { run, at, count } = workbench.view;
-    const rows = run.alarms.filter((/** @type {number} */ row) => row <= count);
-    const row = rows.find((/** @type {number} */ it) => it > at) ?? rows.find((/** @type {number} */ it) => it === at) ?? rows[0];
-    if (scale === null || row === undefined) {
-      workbench.say("No alarm came in this run.");
-      return;
-    }
-    this.seeAround(row);
-    workbench.go(row);
-  }
+/** @param {PointerEvent} event */
+function down(event) {
+  if (drawn.picture === null) return;
+  hand.isDrawn = false;
+  const [x, y] = pointOf(event);
+  const hit = hitAt(drawn.picture, x, y);
+  hand.edge = hit?.kind === "edge" ? { edge: hit.edge, from: x } : null;
+  hand.pointers.set(event.pointerId, { x, now: x });
+  if (event.pointerType === "mouse") by("lanes-chart").setPointerCapture(event.pointerId);
+}
 
-  /** @param {number} row */
-  seeAround(row) {
-    const { scale } = this;
-    if (scale === null) return;
-    const place = scale.placeOf(row);
-    const [before, after] = scale.isTime ? AROUND_ALARM : [22, 7];
-    scale.see(place - before, place + after);
-    this.seen();
+/** @param {PointerEvent} event */
+function moved(event) {
+  const held = hand.pointers.get(event.pointerId);
+  if (held === undefined) {
+    if (event.pointerType === "mouse") tell(event);
+    return;
   }
+  const before = held.now;
+  [held.now] = pointOf(event);
+  const isFar = Math.abs(held.now - held.x) >= LEAST_DRAWN;
+  if (hand.edge !== null) {
+    hand.isDrawn = true;
+    dragEdge(held.now);
+  } else if (hand.pointers.size === 2) pinch(held, before);
+  else if (event.pointerType !== "mouse" && isFar) {
+    hand.isDrawn = true;
+    act("move", partOf(before) - partOf(held.now));
+  } else if (event.pointerType === "mouse") {
+    hand.isDrawn = isFar;
+    assign(by("range"), { hidden: !isFar });
+    Object.assign(by("range").style, { left: `${Math.min(held.x, held.now)}px`, width: `${Math.abs(held.now - held.x)}px` });
+  }
+}
 
-  /**
-   * @param {number} times
-   * @param {number} [part] what stays where it is: where the shown row is, if it is seen
-   */
-  zoom(times, part) {
-    const { scale } = this;
-    if (scale === null) return;
-    const at = scale.partOf(scale.placeOf(this.workbench.view.at));
-    scale.zoom(times, part ?? (at >= 0 && at <= 1 ? at : 0.5));
-    this.seen();
-  }
+/** @param {{ x: number, now: number }} held @param {number} before */
+function pinch(held, before) {
+  const other = [...hand.pointers.values()].find((it) => it !== held);
+  const [was, is] = [Math.abs(before - other.now), Math.abs(held.now - other.now)];
+  hand.isDrawn = true;
+  if (was > 8 && is > 8) act("zoom", was / is, partOf((held.now + other.now) / 2));
+}
 
-  /** @param {number} part */
-  move(part) {
-    this.scale?.move(part);
-    this.seen();
-  }
+/** @param {PointerEvent} event */
+function up(event) {
+  const held = hand.pointers.get(event.pointerId);
+  hand.pointers.delete(event.pointerId);
+  hand.edge = null;
+  if (by("range").hidden || held === undefined || drawn.picture === null) return;
+  by("range").hidden = true;
+  const { picture } = drawn;
+  const [low, high] = [held.x, held.now].sort((a, b) => a - b).map((x) => placeAtX(picture, x));
+  act("see", low, high);
+}
 
-  seen() {
-    this.drawSeen();
-    this.workbench.keep();
-  }
+/** @param {WheelEvent} event */
+function wheel(event) {
+  const isAcross = Math.abs(event.deltaX) > Math.abs(event.deltaY) || event.shiftKey;
+  if (drawn.picture === null || (!isAcross && !event.ctrlKey)) return;
+  if (isAcross) act("move", (event.deltaX || event.deltaY) / 900);
+  else act("zoom", Math.exp(Math.max(-1, Math.min(1, event.deltaY / 400))), partOf(pointOf(event)[0]));
+  event.preventDefault();
+}
 
-  /**
-   * How far across an event is, of the width of an element.
-   * @param {MouseEvent} event
-   * @param {string} id
-   */
-  partOf(event, id) {
-    const box = by(id).getBoundingClientRect();
-    return Math.max(0, Math.min(1, (event.clientX - box.left) / box.width));
-  }
-
-  /** @param {MouseEvent} event */
-  tell(event) {
-    const { scale, parts, workbench } = this;
-    if (scale === null || parts === null || workbench.isHidden) return;
-    const y = event.clientY - by("lanes-chart").getBoundingClientRect().top;
-    const said = tellAt(scale, parts, this.partOf(event, "lanes-chart"), y, workbench.names);
-    by("block").textContent = said.text;
-    return said;
-  }
-
-  hear() {
-    const canvas = by("lanes-chart");
-    // (what is scrolled to stands below the bar, however high that is)
-    const bar = /** @type {HTMLElement} */ (document.querySelector(".bar"));
-    new ResizeObserver(() => {
-      document.documentElement.style.setProperty("--bar-high", `${bar.offsetHeight}px`);
-      // (a bar that has grown neither covers what has the focus, nor pushes it out of the window)
-      document.querySelector("main :focus")?.scrollIntoView({ block: "nearest" });
-    }).observe(bar);
-    canvas.addEventListener("wheel", (/** @type {WheelEvent} */ event) => this.wheel(event), { passive: false });
-    canvas.addEventListener("pointerdown", (/** @type {PointerEvent} */ event) => this.down(event));
-    canvas.addEventListener("pointermove", (/** @type {PointerEvent} */ event) => this.moved(event));
-    canvas.addEventListener("pointerup", (/** @type {PointerEvent} */ event) => this.up(event));
-    canvas.addEventListener("pointercancel", () => this.pointers.clear());
-    canvas.addEventListener("click", (/** @type {MouseEvent} */ event) => {
-      const said = this.isDrawn ? undefined : this.tell(event);
-      this.isDrawn = false;
-      if (said?.row !== undefined) this.workbench.go(said.row);
-    });
-    by("chart").addEventListener("click", (/** @type {MouseEvent} */ event) => {
-      const { scale, strip } = this;
-      if (scale === null || strip === null) return;
-      const part = this.partOf(event, "chart");
-      if (!scale.isWhole) {
-        const half = (scale.to - scale.from) / 2;
-        scale.see(part * scale.end - half, part * scale.end + half);
-        this.seen();
-      }
-      this.workbench.go(strip.rowAt(part));
-    });
-    by("fit").addEventListener("click", () => this.fit());
-    by("to-alarm").addEventListener("click", () => this.toAlarm());
-    by("closer").addEventListener("click", () => this.zoom(1 / STEP));
-    by("wider").addEventListener("click", () => this.zoom(STEP));
-    by("dismiss").addEventListener("click", () => this.workbench.dismiss());
-  }
-
-  /** @param {WheelEvent} event */
-  wheel(event) {
-    const { scale } = this;
-    if (scale === null) return;
-    const isAcross = Math.abs(event.deltaX) > Math.abs(event.deltaY) || event.shiftKey;
-    if (isAcross) this.move((event.deltaX || event.deltaY) / 900);
-    // (where all is seen already, the page scrolls on)
-    else if (event.deltaY > 0 && scale.isWhole) return;
-    else this.zoom(Math.exp(Math.max(-1, Math.min(1, event.deltaY / 400))), this.partOf(event, "lanes-chart"));
-    event.preventDefault();
-  }
-
-  /** @param {PointerEvent} event */
-  down(event) {
-    this.isDrawn = false;
-    this.pointers.set(event.pointerId, { x: event.clientX, now: event.clientX });
-    if (event.pointerType === "mouse") by("lanes-chart").setPointerCapture(event.pointerId);
-  }
-
-  /** @param {PointerEvent} event */
-  moved(event) {
-    const held = this.pointers.get(event.pointerId);
-    if (held === undefined) {
-      if (event.pointerType === "mouse") this.tell(event);
-      return;
-    }
-    const before = held.now;
-    held.now = event.clientX;
-    if (this.pointers.size === 2) this.pinch(held, before);
-    else if (event.pointerType !== "mouse") this.drag(held, before);
-    else this.drawRange(held);
-  }
-
-  /** @param {{ x: number, now: number }} held @param {number} before */
-  pinch(held, before) {
-    const other = [...this.pointers.values()].find((it) => it !== held);
-    const [was, is] = [Math.abs(before - other.now), Math.abs(held.now - other.now)];
-    this.isDrawn = true;
-    if (was > 8 && is > 8) {
-      const box = by("lanes-chart").getBoundingClientRect();
-      this.zoom(was / is, ((held.now + other.now) / 2 - box.left) / box.width);
-    }
-  }
-
-  /** One finger moves what is seen. @param {{ x: number, now: number }} held @param {number} before */
-  drag(held, before) {
-    if (Math.abs(held.now - held.x) < LEAST_DRAWN) return;
-    this.isDrawn = true;
-    this.move((before - held.now) / by("lanes-chart").clientWidth);
-  }
-
-  /** @param {{ x: number, now: number }} held */
-  drawRange(held) {
-    const box = by("lanes-chart").getBoundingClientRect();
-    const isRange = Math.abs(held.now - held.x) >= LEAST_DRAWN;
-    this.isDrawn = isRange;
-    by("range").hidden = !isRange;
-    by("range").style.left = `${Math.min(held.x, held.now) - box.left}px`;
-    by("range").style.width = `${Math.abs(held.now - held.x)}px`;
-  }
-
-  /** @param {PointerEvent} event */
-  up(event) {
-    const held = this.pointers.get(event.pointerId);
-    this.pointers.delete(event.pointerId);
-    const { scale } = this;
-    if (by("range").hidden || held === undefined || scale === null) return;
-    by("range").hidden = true;
-    const box = by("lanes-chart").getBoundingClientRect();
-    const span = scale.to - scale.from;
-    const [low, high] = [held.x, held.now].sort((a, b) => a - b)
-      .map((x) => scale.from + (span * (x - box.left)) / box.width);
-    scale.see(low, high);
-    this.seen();
-  }
+export function hearChart() {
+  const canvas = by("lanes-chart");
+  canvas.addEventListener("wheel", wheel, { passive: false });
+  canvas.addEventListener("pointerdown", down);
+  canvas.addEventListener("pointermove", moved);
+  canvas.addEventListener("pointerup", up);
+  canvas.addEventListener("pointercancel", () => hand.pointers.clear());
+  canvas.addEventListener("pointerleave", () => { by("block").hidden = true; });
+  canvas.addEventListener("click", click);
+  by("slider").addEventListener("input", () => act("go", Number(by("slider").value)));
 }

@@ -13,20 +13,13 @@ function holds(row, time) {
   return row.from <= time && after < row.to - row.from && time - after <= (row.until ?? time);
 }
 
-/**
- * The percentage that is stolen of a centisecond: that of the first row that holds.
- * @param {Steal} steal
- * @param {number} time
- */
+/** The percentage that is stolen of a centisecond: that of the first row that holds. @param {Steal} steal @param {number} time */
 export function stolenAt(steal, time) {
   if (typeof steal === "number") return steal;
   return steal.find((it) => holds(it, time))?.percent ?? 0;
 }
 
-/**
- * Rows that come again, and those that come once, which don't overlap, in the order of time.
- * @param {StealRow[]} steal
- */
+/** Rows that come again, and those that come once, which don't overlap, in the order of time. @param {StealRow[]} steal */
 export function partsOf(steal) {
   const once = steal.filter((it) => it.every === undefined).sort((a, b) => a.from - b.from);
   return { once, beats: steal.filter((it) => it.every !== undefined) };
@@ -60,13 +53,7 @@ export function stolenParts(steal, from, to, column) {
   return parts;
 }
 
-/**
- * Rows up to a time, and a percentage from then on.
- * @param {Steal} steal
- * @param {number} now
- * @param {StealRow} last
- * @returns {StealRow[]}
- */
+/** Rows up to a time, and a percentage from then on. @param {Steal} steal @param {number} now @param {StealRow} last @returns {StealRow[]} */
 export function stolenSince(steal, now, last) {
   if (typeof steal === "number") return [{ from: 0, to: now, percent: steal }, last];
   const before = steal.filter((it) => it.from < now).map((it) => (it.every === undefined

@@ -1,28 +1,70 @@
 /**
- * Draws the tables of a row: core sets, areas, Waitlist, phases, codes, NEWJOB, and the words.
+ * The tables of a row: core sets, areas, Waitlist, phases, codes, NEWJOB, and the words. The boxes are
+ * made once, so that one that has the focus keeps it; what a box says is written where it differs.
  *
+ * @typedef {import("./state.js").State} State
  * @typedef {import("./run.js").Shown} Shown
- * @typedef {import("../libagc/js/machine.js").Scene} Scene
  * @typedef {import("./account.js").Names} Names
  * @typedef {import("./colours.js").Colours} Colours
+ * @typedef {{ name: string, strong: string, more?: string[], style: string, isNew?: boolean, title?: string, bar?: number }} Box
  */
 import { nameOfRestart } from "./account.js";
-import { by, fill, make } from "./dom.js";
-import { PLACES, octal, wordName } from "./words.js";
+import { assign, attribute, by, fill, make, set } from "./dom.js";
+import { coloursOf, differ, namesOf, rowsOf, shownOf } from "./state.js";
+import { PLACES, octal, seconds, wordName } from "./words.js";
 
-/**
- * A box of a table.
- * @param {string} name
- * @param {string} strong
- * @param {string[]} more
- * @param {string} style
- * @param {boolean} isNew whether it isn't as it was in the row before
- */
-function box(name, strong, more, style, isNew) {
-  const made = make("li", { class: isNew ? `${style} new` : style }, make("span", {}, name),
-    make("b", {}, strong), ...more.map((it) => make("span", {}, it)));
-  if (isNew) made.append(make("span", { class: "hidden" }, "changed"));
-  return made;
+/** How many boxes a list has at most, and how many lines each has below its name. */
+const LISTS = { sets: [8, 3], "beside-sets": [8, 3], areas: [5, 1], tasks: [PLACES, 1], phases: [6, 0], codes: [3, 0], newjob: [1, 0] };
+
+/** @typedef {ReturnType<typeof boxOf>} BoxNode @type {Record<string, BoxNode[]>} */
+const made = {};
+
+/** @param {string} list @param {number} lines @param {number} k */
+function boxOf(list, lines, k) {
+  const nodes = {
+    name: make("span", { class: "name" }), strong: make("b", {}),
+    more: Array.from({ length: lines }, () => make("span", {})), changed: make("span", { class: "hidden" }),
+    bar: list === "tasks" ? make("progress", { "aria-hidden": "true", max: 1 }) : null,
+    cover: list === "beside-sets" ? null : make("button", { type: "button", class: "cover", tabIndex: k === 0 ? 0 : -1 }),
+  };
+  const parts = [nodes.name, nodes.strong, ...nodes.more, nodes.bar, nodes.changed, nodes.cover];
+  return { ...nodes, item: make("li", {}, ...parts.filter((it) => it !== null)) };
+}
+
+/** Makes the boxes of all lists. */
+export function makeBoxes() {
+  for (const [list, [count, lines]] of Object.entries(LISTS)) {
+    made[list] = Array.from({ length: count }, (_, k) => boxOf(list, lines, k));
+  }
+}
+
+/** Motion that a box had before begins once more with another row. @param {HTMLElement} item @param {string} style */
+function moveAgain(item, style) {
+  const motion = ["comes", "turns-over"].find((it) => style.includes(it) && item.classList.contains(it));
+  if (motion === undefined || document.body.classList.contains("running")) return;
+  item.classList.remove(motion);
+  item.getBoundingClientRect();
+}
+
+/** Draws a list: as many boxes as there are. @param {string} list @param {Box[]} boxes @param {boolean} [isStep] whether another row is shown */
+function draw(list, boxes, isStep = false) {
+  const nodes = made[list];
+  if (by(list).childElementCount !== boxes.length) fill(list, nodes.slice(0, boxes.length).map((it) => it.item));
+  boxes.forEach(({ name, strong, more = [], style, isNew = false, title = "", bar }, k) => {
+    const box = nodes[k];
+    if (isStep) moveAgain(box.item, style);
+    assign(box.item, { className: `${style}${isNew ? " new" : ""}`, title });
+    set(box.name, name);
+    set(box.strong, strong);
+    box.more.forEach((it, n) => {
+      set(it, more[n] ?? "");
+      assign(it, { hidden: (more[n] ?? "") === "" });
+    });
+    set(box.changed, isNew ? "changed" : "");
+    if (box.bar !== null) assign(box.bar, { hidden: bar === undefined, value: bar ?? 0 });
+    const told = [strong, ...more].filter((it) => it !== "").join(", ");
+    if (box.cover !== null) attribute(box.cover, "aria-label", `${name}: ${told}. What is it?`);
+  });
 }
 
 /** @param {any} one @param {any} other */
@@ -30,176 +72,110 @@ function differs(one, other) {
   return JSON.stringify(one) !== JSON.stringify(other);
 }
 
-/**
- * @param {Shown} shown
- * @param {number} k
- * @param {Names} names
- * @param {Colours} colours
- * @param {boolean} isNew
- */
-function setBox(shown, k, names, colours, isNew) {
-  const { scene, jobsFrom } = shown;
-  const job = scene.sets[k];
-  if (job === null) return box(`set ${k}`, "free", [], "free", isNew);
-  const runs = k === 0 && scene.running === job.number;
-  const isNamed = scene.next === job.number && scene.next !== scene.running;
-  const stands = runs ? "runs" : job.asleep ? "asleep" : isNamed ? "NEWJOB" : "waits";
-  const state = `${stands}${job.area > 0 ? `, area ${job.area}` : ""}`;
-  const colour = 1 + colours.of(jobsFrom[k]);
-  const style = `${job.asleep ? `asleep s${colour}` : `j${colour}`}${runs ? " runs" : ""}`;
-  const moved = comes(shown, k);
-  const more = [`priority ${octal(job.priority, 2)}`, names.job(job.at) ?? octal(job.at, 5), state];
-  return box(`set ${k}`, `job ${job.number}`, more, `${style}${moved}`, isNew);
-}
-
-/**
- * How a job moves that has just come, or fallen asleep, or woken.
- * @param {Shown} shown
- * @param {number} k
- */
-function comes({ scene, last, isAfter }, k) {
-  const job = scene.sets[k];
-  if (last === null || job === null || isAfter) return "";
+/** How a job moves that has just come, or fallen asleep, or woken. @param {Shown} shown @param {import("../libagc/js/machine.js").Job} job */
+function comes({ last, isAfter }, job) {
+  if (last === null || isAfter) return "";
   const before = last.sets.find((it) => it?.number === job.number);
   if (before === undefined || before === null) return " comes";
   return before.asleep !== job.asleep ? " turns-over" : "";
 }
 
-/**
- * Draws core sets into a list.
- * @param {string} id
- * @param {Shown} shown
- * @param {Names} names
- * @param {Colours} colours
- */
-export function drawSets(id, shown, names, colours) {
-  const { scene, last: before } = shown;
-  fill(id, scene.sets.map((job, k) => {
-    const isNew = before !== null && (differs(job, before.sets[k])
-      || (k === 0 && scene.running !== before.running));
-    return setBox(shown, k, names, colours, isNew);
-  }));
+/** @param {Shown} shown @param {number} k @param {Names} names @param {Colours} colours @returns {Box} */
+function setBox(shown, k, names, colours) {
+  const { scene, jobsFrom, last } = shown;
+  const job = scene.sets[k];
+  const isNew = last !== null && (differs(job, last.sets[k]) || (k === 0 && scene.running !== last.running));
+  if (job === null) return { name: `set ${k}`, strong: "free", style: "free", isNew };
+  const runs = k === 0 && scene.running === job.number;
+  const isNamed = scene.next === job.number && scene.next !== scene.running;
+  const stands = runs ? "runs" : job.asleep ? "asleep" : isNamed ? "NEWJOB" : "waits";
+  const colour = 1 + colours.of(jobsFrom[k]);
+  const name = names.job(job.at);
+  return { name: `set ${k}`, strong: name ?? `job ${job.number}`, isNew,
+    style: `${job.asleep ? `asleep s${colour}` : runs ? `j${colour} runs` : `s${colour}`}${comes(shown, job)}`,
+    more: [`${stands}${job.area > 0 ? `, area ${job.area}` : ""}`,
+      name === undefined ? `at ${octal(job.at, 5)}` : `job ${job.number}`, `priority ${octal(job.priority, 2)}`] };
 }
 
-/**
- * @param {Shown} shown
- * @param {Colours} colours
- */
-function drawAreas({ scene, last: before, jobsFrom }, colours) {
-  fill("areas", scene.areas.map((owner, k) => {
-    const set = scene.sets.findIndex((it) => it?.number === owner);
-    const style = owner === 0 ? "free" : `j${1 + colours.of(jobsFrom[set])}`;
-    const isNew = before !== null && owner !== before.areas[k];
-    return box(`area ${k + 1}`, owner === 0 ? "free" : `job ${owner}`, [], style, isNew);
-  }));
+/** @param {Shown} shown @param {number} k @param {Names} names @param {Colours} colours @returns {Box} */
+function areaBox({ scene, last, jobsFrom }, k, names, colours) {
+  const owner = scene.areas[k];
+  const set = scene.sets.findIndex((it) => it?.number === owner);
+  const isNew = last !== null && owner !== last.areas[k];
+  if (owner === 0) return { name: `area ${k + 1}`, strong: "free", style: "free", isNew };
+  const name = names.job(scene.sets[set]?.at ?? 0);
+  return { name: `area ${k + 1}`, strong: name ?? `job ${owner}`, more: name === undefined ? [] : [`job ${owner}`], style: `${scene.running === owner ? "j" : "s"}${1 + colours.of(jobsFrom[set])}`, isNew };
 }
 
-/**
- * @param {Scene} scene
- * @param {number[]} since
- * @param {number} row
- * @param {Names} names
- */
-function drawTasks({ tasks }, since, row, names) {
-  const most = Math.max(1, ...tasks.map((it) => it.left));
-  fill("tasks", Array.from({ length: PLACES }, (_, k) => {
-    const task = tasks[k];
-    if (task === undefined) return box(`place ${k + 1}`, "free", [], "free", false);
-    const isNew = row > 0 && (since[k] >> 1 === row || (row > 1 && since[k] === 2 * row - 1));
-    const address = octal(task.at, 5);
-    const name = names.task(task);
-    const style = name === undefined ? "lit" : "lit named";
-    const made = box(`place ${k + 1}`, name ?? address, [`in ${task.left} cs`], style, isNew);
-    if (name !== undefined) {
-      made.title = `${name}, at ${address}`;
-      made.append(make("span", { class: "hidden" }, `at ${address}`));
-    }
-    made.append(make("progress", { max: most, value: task.left, "aria-hidden": "true" }));
-    return made;
-  }));
+/** @param {Shown} shown @param {number} k @param {Names} names @returns {Box} */
+function taskBox({ scene: { tasks }, tasksSince: since, row }, k, names) {
+  const task = tasks[k];
+  if (task === undefined) return { name: `place ${k + 1}`, strong: "free", style: "free" };
+  const address = octal(task.at, 5);
+  const name = names.task(task);
+  return { name: `place ${k + 1}`, strong: name ?? address, more: [`in ${seconds(task.left)}`], style: "lit", title: name === undefined ? "" : `${name}, at ${address}`,
+    isNew: row > 0 && (since[k] >> 1 === row || (row > 1 && since[k] === 2 * row - 1)), bar: task.left / Math.max(1, ...tasks.map((it) => it.left)) };
 }
 
-/**
- * @param {Scene} scene
- * @param {Scene | null} before
- */
-function drawBase({ phases, codes, next, running }, before) {
-  fill("phases", phases.map((it, k) => box(`group ${k + 1}`, String(it), [],
-    it === 0 ? "free" : "lit", before !== null && it !== before.phases[k])));
-  fill("codes", codes.map((it, k) => box(["first", "second", "latest"][k],
-    it === 0 ? "none" : octal(it, 4), [], it === 0 ? "free" : "lit",
-    before !== null && it !== before.codes[k])));
+/** @param {Shown} shown */
+function drawBase({ scene: { phases, codes, next, running }, last }) {
+  draw("phases", phases.map((it, k) => ({ name: `group ${k + 1}`, strong: String(it), style: it === 0 ? "free" : "lit", isNew: last !== null && it !== last.phases[k] })));
+  draw("codes", codes.map((it, k) => ({ name: ["first", "second", "latest"][k], strong: it === 0 ? "none" : octal(it, 4), style: it === 0 ? "free" : "lit",
+    isNew: last !== null && it !== last.codes[k] })));
   const isNamed = next !== 0 && next !== running;
-  const named = isNamed ? `job ${next}` : "no other";
-  const isNew = before !== null && next !== before.next;
-  fill("newjob", [box("names", named, [], isNamed ? "lit" : "free", isNew)]);
+  draw("newjob", [{ name: "names", strong: isNamed ? `job ${next}` : "no other", style: isNamed ? "lit" : "free", isNew: last !== null && next !== last.next }]);
 }
 
-/**
- * What the astronauts had of FAILREG: a light, and on VERB 05 NOUN 09 the three codes. An alarm
- * lights it at once, before the tables are swept.
- * @param {Shown} shown
- */
-function drawDisplay({ scene, after, step }) {
-  const { codes } = (step?.alarm ? after : null) ?? scene;
-  const isLit = codes.some((it) => it !== 0);
-  fill("dsky", [make("span", { class: isLit ? "prog on" : "prog" }, isLit ? "PROG on" : "PROG off"),
-    make("span", {}, "VERB 05 NOUN 09: ", make("b", {}, codes.map((it) => octal(it, 5)).join(" ")))]);
-}
-
-/**
- * Marks the table that was full.
- * @param {number} alarm
- */
-function markFull(alarm) {
-  const full = { areas: 0o1201, sets: 0o1202, tasks: 0o1203 };
-  for (const [id, code] of Object.entries(full)) {
-    by(id).classList.toggle("full", alarm === code);
-  }
-}
-
-/**
- * Draws the words, if they are asked for.
- * @param {Uint16Array} words
- */
-export function drawWords(words) {
-  if (!by("words-box").open) return;
-  fill("words-rows", Array.from(words, (word, k) => make("tr", {}, make("td", {}, String(k)),
-    make("td", {}, octal(word, 5)), make("td", {}, wordName(k)))));
-}
-
-/**
- * The tables' headings: how much is in use, and whether the tables are those after a restart.
- * @param {Shown} shown
- */
+/** The tables' headings: how much is in use, and whether the tables are those after a restart. @param {Shown} shown */
 function drawHeadings({ isAfter, line, scene }) {
   const more = isAfter ? `, after the ${nameOfRestart(line)}` : "";
-  const { sets, areas, tasks } = scene;
-  const used = sets.filter((it) => it !== null).length;
-  const owned = areas.filter((it) => it !== 0).length;
-  const headings = { sets: ["Core sets", used, sets.length],
-    areas: ["VAC areas", owned, areas.length], tasks: ["Waitlist", tasks.length, PLACES] };
-  for (const [id, [name, count, all]] of Object.entries(headings)) {
-    by(`${id}-name`).textContent = `${name}${more}: ${count} of ${all} in use`;
-  }
-  by("sets").parentElement.classList.toggle("after", isAfter === true);
+  const count = (/** @type {any[]} */ all) => all.filter((it) => it !== null && it !== 0).length;
+  const headings = { sets: ["Core sets", count(scene.sets), scene.sets.length], areas: ["VAC areas", count(scene.areas), 5], tasks: ["Waitlist", scene.tasks.length, PLACES] };
+  for (const [id, [name, used, all]] of Object.entries(headings)) set(by(`${id}-name`), `${name}${more}: ${used} of ${all} in use`);
 }
 
-/**
- * Draws the tables of a row.
- * @param {Shown} shown
- * @param {Names} names
- * @param {Colours} colours
- */
-export function drawTables(shown, names, colours) {
-  const { scene, last } = shown;
+/** Draws the words, if they are asked for. @param {State} now */
+export function drawWords(now) {
+  if (!by("words-box").open) return;
+  const { words } = shownOf(now);
+  const rows = by("words-rows");
+  if (rows.childElementCount !== words.length) {
+    fill("words-rows", Array.from(words, (_, k) => make("tr", {}, make("td", {}, String(k)), make("td", {}), make("td", {}, wordName(k)))));
+  }
+  words.forEach((word, k) => set(rows.children[k].children[1], octal(word, 5)));
+}
+
+/** The run beside, at the same time, or the same request. @param {State} now */
+function drawBeside(now) {
+  const { beside, run, at } = now;
+  assign(by("beside"), { hidden: beside === null });
+  if (beside === null) return;
+  const { run: other } = beside;
+  const row = run.bench.seconds === undefined ? Math.min(at, other.count) : other.rowAtTime(run.ticksAt(at), other.count);
+  const shown = rowsOf(other).at(row);
+  draw("beside-sets", shown.scene.sets.map((_, k) => setBox(shown, k, namesOf(other), coloursOf(run))));
+  return { row, reply: shown.reply };
+}
+
+/** @param {State} now @param {State} before @param {(now: State, row: number, reply: string) => string} told what is said of the run beside */
+export function tables(now, before, told) {
+  if (differ(now, before, "beside", "run", "at", "clock")) {
+    const found = drawBeside(now);
+    if (found !== undefined) set(by("beside-name"), told(now, found.row, found.reply));
+  }
+  if (!differ(now, before, "run", "at", "isAfter", "hidden")) return;
+  const shown = shownOf(now);
+  const { scene } = shown;
+  const [names, colours] = [namesOf(now.run), coloursOf(now.run)];
   drawHeadings(shown);
+  const alarm = shown.isAfter ? 0 : shown.step?.alarm ?? 0;
+  for (const [id, code] of Object.entries({ areas: 0o1201, sets: 0o1202, tasks: 0o1203 })) by(id).classList.toggle("full", alarm === code);
+  by("tables").classList.toggle("after", shown.isAfter === true);
+  by("tables").classList.toggle("begins", shown.row === 0);
   for (const id of ["sets", "tasks"]) by(id).classList.toggle("swept", shown.isAfter === true);
-  drawSets("sets", shown, names, colours);
-  drawAreas(shown, colours);
-  drawTasks(scene, shown.tasksSince, shown.row, names);
-  drawBase(scene, last);
-  drawDisplay(shown);
-  markFull(shown.isAfter ? 0 : shown.step?.alarm ?? 0);
-  drawWords(shown.words);
+  draw("sets", scene.sets.map((_, k) => setBox(shown, k, names, colours)), differ(now, before, "run", "at"));
+  draw("areas", scene.areas.map((_, k) => areaBox(shown, k, names, colours)));
+  draw("tasks", Array.from({ length: PLACES }, (_, k) => taskBox(shown, k, names)));
+  drawBase(shown);
+  drawWords(now);
 }

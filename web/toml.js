@@ -3,16 +3,13 @@
  * and tables in arrays. What else TOML allows is refused as unknown here; what TOML refuses is
  * refused too. An integer is a BigInt, so that none is rounded.
  *
- * @typedef {string | bigint | Value[] | Table} Value
+ * @typedef {string | bigint | any[] | Table} Value
  * @typedef {{ keys: Map<string, Value>, line: number, lines: Map<string, number> }} Table
  */
 
 /** A document that isn't read: in which line, and why. */
 export class Unread extends Error {
-  /**
-   * @param {number} line
-   * @param {string} reason
-   */
+  /** @param {number} line @param {string} reason */
   constructor(line, reason) {
     super(`line ${line}: ${reason}`);
     this.line = line;
@@ -29,10 +26,7 @@ const CONTROL = /[\u0000-\u0008\u000a-\u001f\u007f]/;
 const LEAST = -(2n ** 63n);
 const MOST = 2n ** 63n - 1n;
 
-/**
- * @param {number} line
- * @returns {Table}
- */
+/** @param {number} line @returns {Table} */
 function newTable(line) {
   return { keys: new Map(), line, lines: new Map() };
 }
@@ -48,10 +42,7 @@ class Reader {
     this.opened = new Set();
   }
 
-  /**
-   * @param {string} reason
-   * @returns {never}
-   */
+  /** @param {string} reason @returns {never} */
   refuse(reason) {
     throw new Unread(this.line, reason);
   }
@@ -61,20 +52,14 @@ class Reader {
     return this.text.startsWith(text, this.at);
   }
 
-  /**
-   * Passes over a text, if it is next.
-   * @param {string} text
-   */
+  /** Passes over a text, if it is next. @param {string} text */
   takes(text) {
     if (!this.meets(text)) return false;
     this.at += text.length;
     return true;
   }
 
-  /**
-   * What a pattern that is bound to its place finds here, which is passed over.
-   * @param {RegExp} pattern
-   */
+  /** What a pattern that is bound to its place finds here, which is passed over. @param {RegExp} pattern */
   match(pattern) {
     pattern.lastIndex = this.at;
     const found = pattern.exec(this.text);
@@ -171,10 +156,7 @@ class Reader {
     return String.fromCodePoint(code);
   }
 
-  /**
-   * The rest of a string over several lines, in these quotes.
-   * @param {string} quote
-   */
+  /** The rest of a string over several lines, in these quotes. @param {string} quote */
   manyLines(quote) {
     this.lineEnd();
     const from = this.at;
@@ -208,10 +190,7 @@ class Reader {
     return number;
   }
 
-  /**
-   * @param {number} depth
-   * @returns {Value}
-   */
+  /** @param {number} depth @returns {Value} */
   value(depth) {
     if (depth > 8) this.refuse("arrays nested so deep aren't known here");
     if (this.takes('"""')) return this.manyLines('"');
@@ -254,11 +233,7 @@ class Reader {
     }
   }
 
-  /**
-   * A key and its value.
-   * @param {Table} table
-   * @param {number} depth
-   */
+  /** A key and its value. @param {Table} table @param {number} depth */
   entry(table, depth) {
     const line = this.line;
     const key = this.keyAndSign();
@@ -267,10 +242,7 @@ class Reader {
     table.lines.set(key, line);
   }
 
-  /**
-   * The table that a heading begins.
-   * @param {Table} top
-   */
+  /** The table that a heading begins. @param {Table} top */
   heading(top) {
     if (!this.takes("[[")) this.refuse("a table alone, [..], has no place here: write [[..]]");
     this.spaces();
@@ -292,11 +264,7 @@ class Reader {
   }
 }
 
-/**
- * The table of a document.
- * @param {string} text
- * @returns {Table}
- */
+/** The table of a document. @param {string} text @returns {Table} */
 export function readToml(text) {
   const reader = new Reader(text);
   const top = newTable(1);

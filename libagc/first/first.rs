@@ -2,7 +2,7 @@
 mod agc;
 use agc::*;
 
-fn main() -> Result<(), Lacking> {
+fn main() -> Result<(), AgcError> {
     let plan = Plan::new().phase(4, 5, "findvac 25 06000 00007", "list 10 06100 00007")?;
     let mut machine = Machine::new(7, plan)?;
     let mut step = machine.ask("phase 4 5")?;

@@ -5,7 +5,7 @@ const scenario = JSON.parse(readFileSync(0, "utf8"));
 const machine = new Machine({ sets: scenario.sets, power: scenario.power, plan: scenario });
 const clock = new Clock(scenario);
 const tell = (time, what) =>
-  console.log(`${time / 100} s, request ${machine.totals.served}: ${what}`);
+  console.log(`${(time / 100).toFixed(2)} s, request ${machine.totals.served}: ${what}`);
 machine.run(clock, clock.lasts, (asked, step, time) => {
   if (step.alarm) tell(time, `alarm ${step.alarm.toString(8)}`);
 });

@@ -19,9 +19,8 @@ fn main() {
         }
     }
 
-    let job = JobStart::Findvac { priority: 0o25, at: 0o6000, bank: 7 };
-    let task = Listing { delay: 10, at: 0o6100, bank: 7 };
-    let plan = [PhaseEntry { group: 4, phase: 5, job: Some(job), task: Some(task) }];
+    let job = AgcPhaseEntry { group: 4, phase: 5, job: FINDVAC, priority: 0o25, job_at: 0o6000, job_bank: 7, ..AgcPhaseEntry::default() };
+    let plan = [AgcPhaseEntry { delay: 10, task_at: 0o6100, task_bank: 7, ..job }];
     agc_set_phase(&mut words, 7, 4, 5);
     let mut reply = agc_findvac(&mut words, 7, 0o30, 0o2100, 5);
     while reply.reply != ALARMED {

@@ -3,7 +3,7 @@
  *
  * agc_step does one request, with all that follows from it, by a plan of your own: tasks fire, and
  * after an alarm the era begins anew. Below it are the single calls of the Executive (jobs), the
- * Waitlist (tasks) and the phase tables. Each is proved to do what it says. docs/EMBEDDING.md has a
+ * Waitlist (tasks) and the phase tables. Each is proved to do what it says. docs/embedding/C.md has a
  * first program, docs/MODEL.md what each call means.
  *
  * THE IMAGE. `words` is an array of AGC_WORDS numbers that you own: the words of the tables, each
@@ -88,11 +88,11 @@ enum { AGC_WORDS = 144, AGC_PHASE_WORDS = 12, AGC_PHASE_PLACE = 117 };
 /* How many tasks fire in a step at most, and how many actions a row of a plan has. */
 enum { AGC_FIRED = 9, AGC_ACTIONS = 4 };
 
-/* How many tasks wait at most, how many VAC areas, restart groups and words of FAILREG there are, and how
-   many work words a job has. */
-enum { AGC_TASKS = 9, AGC_AREAS = 5, AGC_GROUPS = 6, AGC_CODES = 3, AGC_WORK = 6 };
+/* How many core sets there are at most, how many tasks wait at most, how many VAC areas, restart groups and
+   words of FAILREG there are, and how many work words a job has. */
+enum { AGC_MOST_SETS = 8, AGC_TASKS = 9, AGC_AREAS = 5, AGC_GROUPS = 6, AGC_CODES = 3, AGC_WORK = 6 };
 
-/* Room for each line of agc_write_reply, and for each report of agc_write_report. */
+/* Room for each line of agc_write_reply and agc_write_rule, and for each report of agc_write_report. */
 enum { AGC_LINE = 128, AGC_REPORT = 2048 };
 
 /* The codes. A call answers the first that applies. */
@@ -117,7 +117,6 @@ enum {
     AGC_TIME_RANGE = 15,  /* a number of the timetable is out of its range */
     AGC_STEAL_TWICE = 16, /* two rows of stolen time hold at one time */
     AGC_COST_TWICE = 17,  /* one address has two costs */
-    AGC_OUTSIDE = 18,     /* a map has a table beyond the end of the memory */
     AGC_SPENT = 19,       /* as many requests were served as the allowance says */
     AGC_LOG_FULL = 20     /* as many requests were served since the last era began as the limit says */
 };
@@ -192,8 +191,7 @@ enum {
     AGC_RULE_NO_TASK = 16,      /* LST2 behind the last task is 0 */
     AGC_RULE_PHASE = 17,        /* a phase is at most 127 */
     AGC_RULE_PAIR = 18,         /* -PHASE is the complement of PHASE */
-    AGC_RULE_CODE = 19,         /* FAILREG has codes of alarms, the first, the second and the latest */
-    AGC_RULE_ENDTASK = 20       /* of a real computer: where no task waits, LST2 has 0, and not ENDTASK */
+    AGC_RULE_CODE = 19          /* FAILREG has codes of alarms, the first, the second and the latest */
 };
 
 /* A function of this header itself, and a type that has a bool. C90 has neither `inline` nor
@@ -243,22 +241,23 @@ AGC_TYPE struct { uint32_t code, number, priority, at, bank, area; bool asleep; 
 /* A task that waits, and the centiseconds that are left to it. Its address is 0 where there is none. */
 typedef struct { uint32_t code, at, bank, left; } AgcWaiting;
 
+/* All that the tables hold: the numbers of the job that runs and of that which NEWJOB names, 0 for none;
+   the jobs in the core sets, no job beyond the last set; the numbers of the jobs that own VAC areas 1 to
+   5; the tasks that wait, as they come due, no task after the last; FAILREG; and the phases of groups 1
+   to 6. Each code is AGC_OK. */
+typedef struct {
+    uint32_t running, next;
+    AgcJob sets[8];
+    uint32_t areas[5];
+    AgcWaiting tasks[9];
+    uint32_t failreg[3];
+    uint8_t phases[6];
+} AgcScene;
+
 /* Why words aren't lawful: the rule that is broken first, at which place of the array, what stands
    there, and what would have to, or AGC_ANY where the other words leave more than one choice. */
 typedef struct { uint32_t code, rule, place, found, wanted; } AgcFinding;
 enum { AGC_ANY = 65535 };
-
-/* Where a program of a real computer keeps its tables: addresses in its erasable memory, counted from 0,
-   as E0 to E7 lie one behind the other. The number of core sets, 7 or 8; MPAC of core set 0, which the
-   others follow; VAC1USE, which the other areas follow, of 44 words each; NEWJOB; TIME3; LST1; LST2;
-   -PHASE1; FAILREG; and the address that LST2 has where no task waits, or 0 where that is 0. */
-typedef struct {
-    uint32_t sets, mpac, vac1use, newjob, time3, lst1, lst2, phase1, failreg, endtask;
-} AgcMap;
-
-/* A word of a real computer's tables: its address, what stands there, and the rule of lawful words that
-   it breaks, or 0. */
-typedef struct { uint32_t code, at, word, rule; } AgcCell;
 
 /* The phases of groups 1 to 6. */
 typedef struct { uint32_t code; uint8_t phases[6]; } AgcPhases;
@@ -376,7 +375,6 @@ AGC_INLINE const char *agc_code_text(uint32_t code) {
     case AGC_TIME_RANGE: return "a number of the timetable is out of its range";
     case AGC_STEAL_TWICE: return "two rows of stolen time hold at one time";
     case AGC_COST_TWICE: return "one address has two costs";
-    case AGC_OUTSIDE: return "the map has a table beyond the end of the memory";
     case AGC_SPENT: return "as many requests were served as the allowance says";
     case AGC_LOG_FULL: return "the log is full, which only a restart or a fresh start empties";
     default: return "no call answers this code";
@@ -401,33 +399,6 @@ AGC_INLINE const char *agc_reply_text(uint32_t reply) {
     case AGC_TICK_ALARMED: return "an action raised an alarm in a tick, and an era began";
     case AGC_RESTARTED: return "an era began by a restart or a fresh start";
     default: return "no reply is of this kind";
-    }
-}
-
-/* What a rule of agc_explain says: the same. */
-AGC_INLINE const char *agc_rule_text(uint32_t rule) {
-    switch (rule) {
-    case AGC_RULE_WORD: return "a word has at most fifteen bits";
-    case AGC_RULE_NUMBER: return "a job's number is 1 to the number of core sets";
-    case AGC_RULE_NUMBER_TWICE: return "no two jobs have one number";
-    case AGC_RULE_LOC: return "LOC of a job is an address, 1 to 037777";
-    case AGC_RULE_PRIORITY: return "PRIORITY of a job has a priority, 1 to 31";
-    case AGC_RULE_AREA: return "PRIORITY of a job ends with a VAC area's address, or 0";
-    case AGC_RULE_AREA_TWICE: return "no two jobs own one VAC area";
-    case AGC_RULE_FRONT: return "where a job is awake, the job in core set 0 is";
-    case AGC_RULE_USE: return "a use word is 0 where a job owns the area, else its address";
-    case AGC_RULE_NEWJOB: return "NEWJOB names the best job's core set";
-    case AGC_RULE_TIME3: return "TIME3 isn't negative, and is 0 where no task waits";
-    case AGC_RULE_FAR: return "no task is more than 16250 centiseconds away";
-    case AGC_RULE_TASK: return "a task's address is 1 to 037777";
-    case AGC_RULE_GAP: return "LST1 between two tasks is 1 or 0, or negative";
-    case AGC_RULE_NO_GAP: return "LST1 behind the last task is 057777";
-    case AGC_RULE_NO_TASK: return "LST2 behind the last task is 0";
-    case AGC_RULE_PHASE: return "a phase is at most 127";
-    case AGC_RULE_PAIR: return "-PHASE is the complement of PHASE";
-    case AGC_RULE_CODE: return "FAILREG has codes of alarms: the first, the second and the latest";
-    case AGC_RULE_ENDTASK: return "where no task waits, LST2 has 0, and not ENDTASK";
-    default: return "no rule is broken";
     }
 }
 
@@ -544,6 +515,10 @@ AGC_USED uint32_t agc_read_action(const char *text, size_t length, AgcAction *ac
    that fired is none. */
 AGC_USED AgcNumber agc_write_reply(const AgcStep *step, const AgcFired fired[AGC_FIRED], char *text, size_t room);
 
+/* Writes the rule that has this number as a sentence of at most AGC_LINE bytes, in the same way;
+   AGC_OUT_OF_RANGE for a number that no rule has. */
+AGC_USED AgcNumber agc_write_rule(uint32_t rule, char *text, size_t room);
+
 /* The report that `agc` writes of these words and counts, in the same way; codes also those of the
    image. */
 AGC_USED AgcNumber agc_write_report(const uint16_t words[AGC_WORDS], uint32_t sets, const AgcTotals *totals, char *text,
@@ -567,7 +542,7 @@ AGC_USED uint32_t agc_clock_check(const AgcStolen *stolen, size_t stolen_count, 
                          const AgcEvent *events, size_t event_count, const AgcRequest *requests, size_t request_count);
 
 /* The next request of a clock for a machine with these words, which goes on for `lasts` centiseconds.
-   docs/MODEL.md says how time passes. The number tells who asks: 1 the clock, 2 and more an event, the
+   docs/TIME.md says how time passes. The number tells who asks: 1 the clock, 2 and more an event, the
    first being 2; and then *request is to be asked, and agc_clock_served to be told of it. It is 0 where
    the time is over, and *request stays. Codes: those of the image, then those of agc_clock_check. The
    trusted form looks at neither, and has the condition of other calls: an address that is out of its
@@ -627,6 +602,9 @@ AGC_USED AgcNumber agc_phase_at(const uint16_t words[AGC_WORDS], uint32_t sets, 
 /* FAILREG: the first (place 0), the second (1) or the latest code (2); 0 where there is none. */
 AGC_USED AgcNumber agc_failreg(const uint16_t words[AGC_WORDS], uint32_t sets, uint32_t place);
 
+/* All of these at once. Answers the code; *scene stays if it isn't AGC_OK. */
+AGC_USED uint32_t agc_scene(const uint16_t words[AGC_WORDS], uint32_t sets, AgcScene *scene);
+
 /* The number of the job that owns a VAC area, 1 to 5; 0 where no job does. */
 AGC_INLINE AGC_USED AgcNumber agc_area_at(const uint16_t words[AGC_WORDS], uint32_t sets, uint32_t area) {
     AgcNumber found = {AGC_OK, 0};
@@ -640,17 +618,6 @@ AGC_INLINE AGC_USED AgcNumber agc_area_at(const uint16_t words[AGC_WORDS], uint3
     }
     return found;
 }
-
-/* The tables of a real computer, or of an emulator of one: `memory` is its erasable memory, read by a map
-   and left as it is. What stands there is told, and nothing is refused but a map: AGC_NO_SUCH_SETS,
-   AGC_OUTSIDE, and AGC_OUT_OF_RANGE for the last number. agc_core_at: the word that a program has at a
-   place of `words`, as agc_place_name calls it, and the rule that the model would have broken there.
-   agc_core_job: the job in a core set; real jobs have no numbers, so its number is that of the set, from
-   1, and its work words are 0. An area that no map knows is 0. agc_core_task: the task at a place of
-   LST2, 0 to 8; its address is 0 where there is none. */
-AGC_USED AgcCell agc_core_at(const uint16_t *memory, size_t memory_size, const AgcMap *map, uint32_t place);
-AGC_USED AgcJob agc_core_job(const uint16_t *memory, size_t memory_size, const AgcMap *map, uint32_t set);
-AGC_USED AgcWaiting agc_core_task(const uint16_t *memory, size_t memory_size, const AgcMap *map, uint32_t place);
 
 /* The library's release: 10000 times its first number, 100 times its second, and its third. */
 AGC_USED uint32_t agc_version(void);

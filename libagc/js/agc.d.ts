@@ -6,47 +6,7 @@ export declare const VERSION: string;
 export declare const WORDS: 144;
 export declare const PHASE_WORDS: 12;
 
-/** What a call lacked: the first that applies. */
-export declare const Code: {
-  readonly OK: 0;
-  readonly NO_SUCH_SETS: 1;
-  readonly NOT_WORDS: 2;
-  readonly UNLAWFUL: 3;
-  readonly OUT_OF_RANGE: 4;
-  readonly NOT_A_WORD: 5;
-  readonly NOT_NOW: 6;
-  readonly UNTIDY: 8;
-  readonly PLAN_RANGE: 9;
-  readonly TASK_TWICE: 10;
-  readonly PHASE_TWICE: 11;
-  readonly TOO_MANY_AREAS: 12;
-  readonly NOT_SPELLED: 13;
-  readonly NO_ROOM: 14;
-  readonly TIME_RANGE: 15;
-  readonly STEAL_TWICE: 16;
-  readonly COST_TWICE: 17;
-  readonly OUTSIDE: 18;
-  readonly SPENT: 19;
-  readonly LOG_FULL: 20;
-};
-
-/** The kinds of replies. */
-export declare const Kind: {
-  readonly ESTABLISHED: 1;
-  readonly LEFT: 2;
-  readonly IDLE: 3;
-  readonly ROUSED: 4;
-  readonly NO_SLEEPER: 5;
-  readonly NO_JOB: 6;
-  readonly RUNS: 7;
-  readonly STORED: 8;
-  readonly LISTED: 9;
-  readonly ALARMED: 10;
-  readonly PHASED: 11;
-  readonly TICKED: 12;
-  readonly TICK_ALARMED: 13;
-  readonly RESTARTED: 14;
-};
+export { Code, Kind, Library } from "./library.js";
 
 /** What a code says, whatever the number. */
 export declare function codeText(code: number): string;
@@ -54,11 +14,14 @@ export declare function codeText(code: number): string;
 /** What a kind of reply says, whatever the number. */
 export declare function replyText(kind: number): string;
 
-/** A call that was not served. */
-export declare class Lacking extends Error {
+/** What was not served. */
+export declare class AgcError extends Error {
   constructor(code: number, sentence?: string);
   readonly code: number;
 }
+
+/** The name that `AgcError` had. */
+export declare const Lacking: typeof AgcError;
 
 /** What is done when a task fires: one to four actions, as `list 2 02000 00005`. */
 export interface PlanTask {
@@ -196,6 +159,8 @@ export declare class Machine {
   readonly state: MachineState;
   /** A machine of what `state` told. */
   static of(state: MachineState): Machine;
+  /** Who runs, and how many jobs, tasks and alarms there are. */
+  toString(): string;
 }
 
 /**
@@ -320,55 +285,6 @@ export declare function placeName(place: number): string;
 /** What words say that a machine has left, or had at a moment. Other words are refused. */
 export declare function sceneOf(words: ArrayLike<number>): Scene;
 
-/** A word of a real computer's tables that a model wouldn't hold: the rule that it breaks. */
-export interface Odd {
-  rule: number;
-  /** Its place among the words of a model. */
-  place: number;
-  /** Its address in the memory. */
-  at: number;
-  found: number;
-  text: string;
-}
-
-/** Where a program of a real computer keeps its tables: numbers, or their five octal digits. */
-export interface CoreMap {
-  /** How many core sets there are, 7 or 8. */
-  sets: number;
-  /** MPAC of core set 0, which the others follow. */
-  mpac: number | string;
-  /** The use word of VAC area 1, which the other areas follow. */
-  vac1use: number | string;
-  newjob: number | string;
-  time3: number | string;
-  lst1: number | string;
-  lst2: number | string;
-  /** -PHASE1. */
-  phase1: number | string;
-  failreg: number | string;
-  /** What LST2 has where no task waits. */
-  endtask?: number | string;
-  /** How many numbers come before the memory. */
-  skip?: number;
-}
-
-/** What the memory of a real computer says. */
-export interface Core {
-  /** The number of a job is that of its core set, from 1, since real jobs have none. */
-  sets: (Job | null)[];
-  /** Which VAC areas are taken. */
-  taken: boolean[];
-  tasks: Waiting[];
-  phases: number[];
-  codes: number[];
-  newjob: number;
-  /** What a model wouldn't hold. */
-  odd: Odd[];
-}
-
-/** The tables in the erasable memory of a real computer or an emulator. Only a map is refused. */
-export declare function readCore(memory: ArrayLike<number>, map: CoreMap): Core;
-
 /**
  * How many requests were served, and how many are at most; how many were since the last era began, and
  * how many are at most.
@@ -390,132 +306,3 @@ export declare function pulseOf(
 
 /** Takes the module agc.wasm, as bytes or compiled. Importing `agc` has done it. */
 export declare function start(source: BufferSource | WebAssembly.Module): Promise<void>;
-
-/**
- * What agc.wasm exports, for those who instantiate it themselves: the calls as agc.h has them.
- * Pointers are places in `memory` from `__heap_base` on, of which a caller makes as much as it wants
- * by `memory.grow`. What is returned as a struct in C is written to `answer`.
- */
-export interface Library {
-  memory: WebAssembly.Memory;
-  __heap_base: WebAssembly.Global;
-  agc_plan_check(rows: bigint, row_count: bigint, entries: bigint, entry_count: bigint): number;
-  agc_step(
-    answer: bigint, words: bigint, sets: number, rows: bigint, row_count: bigint, entries: bigint,
-    entry_count: bigint, request: bigint, fired: bigint, moment: bigint,
-  ): void;
-  agc_step_trusted(
-    answer: bigint, words: bigint, sets: number, rows: bigint, row_count: bigint, entries: bigint,
-    entry_count: bigint, request: bigint, fired: bigint, moment: bigint,
-  ): void;
-  agc_begin(
-    words: bigint, sets: number, alarm: number, entries: bigint, entry_count: bigint,
-  ): number;
-  agc_begin_trusted(
-    words: bigint, sets: number, alarm: number, entries: bigint, entry_count: bigint,
-  ): number;
-  agc_power_up(
-    answer: bigint, words: bigint, sets: number, entries: bigint, entry_count: bigint,
-    phase_words: bigint,
-  ): void;
-  agc_power_up_trusted(
-    answer: bigint, words: bigint, sets: number, entries: bigint, entry_count: bigint,
-    phase_words: bigint,
-  ): void;
-  agc_refusal(request: bigint, bounds: bigint): number;
-  agc_pulse(
-    answer: bigint, line: number, key: bigint, key_count: bigint, radar: bigint, radar_count: bigint,
-    requests: bigint,
-  ): void;
-  agc_read_request(text: bigint, length: bigint, request: bigint): number;
-  agc_read_action(text: bigint, length: bigint, action: bigint): number;
-  agc_write_reply(answer: bigint, step: bigint, fired: bigint, text: bigint, room: bigint): void;
-  agc_write_report(
-    answer: bigint, words: bigint, sets: number, totals: bigint, text: bigint, room: bigint,
-  ): void;
-  agc_clock_check(
-    stolen: bigint, stolen_count: bigint, costs: bigint, cost_count: bigint,
-    events: bigint, event_count: bigint, requests: bigint, request_count: bigint,
-  ): number;
-  agc_clock_next(
-    answer: bigint, words: bigint, sets: number, lasts: number,
-    stolen: bigint, stolen_count: bigint, costs: bigint, cost_count: bigint,
-    events: bigint, event_count: bigint, requests: bigint, request_count: bigint,
-    clock: bigint, request: bigint,
-  ): void;
-  agc_clock_next_trusted(
-    answer: bigint, words: bigint, sets: number, lasts: number,
-    stolen: bigint, stolen_count: bigint, costs: bigint, cost_count: bigint,
-    events: bigint, event_count: bigint, requests: bigint, request_count: bigint,
-    clock: bigint, request: bigint,
-  ): void;
-  agc_clock_served(words: bigint, sets: number, step: bigint, clock: bigint): number;
-  agc_clock_served_trusted(words: bigint, sets: number, step: bigint, clock: bigint): number;
-  agc_clock_told(step: bigint, clock: bigint, event: bigint): number;
-  agc_clear(words: bigint, sets: number): number;
-  agc_check(answer: bigint, words: bigint, sets: number): void;
-  agc_explain(answer: bigint, words: bigint, sets: number): void;
-  agc_job_at(answer: bigint, words: bigint, sets: number, set: number): void;
-  agc_next(answer: bigint, words: bigint, sets: number): void;
-  agc_task_at(answer: bigint, words: bigint, sets: number, place: number): void;
-  agc_phase_at(answer: bigint, words: bigint, sets: number, group: number): void;
-  agc_failreg(answer: bigint, words: bigint, sets: number, place: number): void;
-  agc_core_at(
-    answer: bigint, memory: bigint, memory_size: bigint, map: bigint, place: number,
-  ): void;
-  agc_core_job(
-    answer: bigint, memory: bigint, memory_size: bigint, map: bigint, set: number,
-  ): void;
-  agc_core_task(
-    answer: bigint, memory: bigint, memory_size: bigint, map: bigint, place: number,
-  ): void;
-  agc_version(): number;
-  agc_restart(words: bigint, sets: number): number;
-  agc_migrate(words: bigint): number;
-  agc_novac(
-    answer: bigint, words: bigint, sets: number, priority: number, at: number, bank: number,
-  ): void;
-  agc_novac_trusted(
-    answer: bigint, words: bigint, sets: number, priority: number, at: number, bank: number,
-  ): void;
-  agc_findvac(
-    answer: bigint, words: bigint, sets: number, priority: number, at: number, bank: number,
-  ): void;
-  agc_findvac_trusted(
-    answer: bigint, words: bigint, sets: number, priority: number, at: number, bank: number,
-  ): void;
-  agc_end_of_job(answer: bigint, words: bigint, sets: number): void;
-  agc_end_of_job_trusted(answer: bigint, words: bigint, sets: number): void;
-  agc_job_sleep(answer: bigint, words: bigint, sets: number, at: number): void;
-  agc_job_sleep_trusted(answer: bigint, words: bigint, sets: number, at: number): void;
-  agc_job_wake(answer: bigint, words: bigint, sets: number, at: number): void;
-  agc_job_wake_trusted(answer: bigint, words: bigint, sets: number, at: number): void;
-  agc_prio_change(answer: bigint, words: bigint, sets: number, priority: number): void;
-  agc_prio_change_trusted(answer: bigint, words: bigint, sets: number, priority: number): void;
-  agc_change_job(answer: bigint, words: bigint, sets: number): void;
-  agc_change_job_trusted(answer: bigint, words: bigint, sets: number): void;
-  agc_store(answer: bigint, words: bigint, sets: number, place: number, word: number): void;
-  agc_store_trusted(answer: bigint, words: bigint, sets: number, place: number, word: number): void;
-  agc_running(answer: bigint, words: bigint, sets: number): void;
-  agc_running_trusted(answer: bigint, words: bigint, sets: number): void;
-  agc_list(
-    answer: bigint, words: bigint, sets: number, delay: number, at: number, bank: number,
-  ): void;
-  agc_list_trusted(
-    answer: bigint, words: bigint, sets: number, delay: number, at: number, bank: number,
-  ): void;
-  agc_count_time3(answer: bigint, words: bigint, sets: number): void;
-  agc_count_time3_trusted(answer: bigint, words: bigint, sets: number): void;
-  agc_due(answer: bigint, words: bigint, sets: number): void;
-  agc_due_trusted(answer: bigint, words: bigint, sets: number): void;
-  agc_dispatch(answer: bigint, words: bigint, sets: number): void;
-  agc_dispatch_trusted(answer: bigint, words: bigint, sets: number): void;
-  agc_set_phase(words: bigint, sets: number, group: number, phase: number): number;
-  agc_set_phase_trusted(words: bigint, sets: number, group: number, phase: number): number;
-  agc_record_alarm(words: bigint, sets: number, alarm: number): number;
-  agc_record_alarm_trusted(words: bigint, sets: number, alarm: number): number;
-  agc_recover(answer: bigint, words: bigint): void;
-  agc_add(answer: bigint, a: number, b: number): void;
-  agc_negative(answer: bigint, word: number): void;
-  agc_value(answer: bigint, word: number): void;
-}

@@ -5,8 +5,8 @@
  * `agc.js` hands all this on with its module loaded. Whoever has the module's bytes elsewhere, as a
  * page that carries them within itself, imports this file and awaits `start(bytes)` first.
  *
- * What a call lacks is thrown as `Lacking`, with a code and a sentence; the machine is then as it
- * was. What isn't of the right type is a `TypeError`. agc.h and docs/EMBEDDING.md say what each
+ * What isn't served is thrown as `AgcError`, with a code and a sentence; the machine is then as it
+ * was. What isn't of the right type, or a key that isn't known, is a `TypeError`. agc.h and docs/EMBEDDING.md say what each
  * call means.
  *
  * @typedef {{ at: string | number, bank: string | number, action: string | string[],
@@ -32,134 +32,26 @@
  *   totals: Totals }} MachineState
  * @typedef {{ rule: number, place: number, found: number, wanted: number | null,
  *   text: string }} Finding
- * @typedef {{ rule: number, place: number, at: number, found: number, text: string }} Odd
- * @typedef {{ sets: number, mpac: number | string, vac1use: number | string,
- *   newjob: number | string, time3: number | string, lst1: number | string,
- *   lst2: number | string, phase1: number | string, failreg: number | string,
- *   endtask?: number | string, skip?: number }} CoreMap
- * @typedef {{ sets: (Job | null)[], taken: boolean[], tasks: Waiting[], phases: number[],
- *   codes: number[], newjob: number, odd: Odd[] }} Core
  * @typedef {{ 1201?: number, 1202?: number, 1203?: number }} FirstAlarms
  * @typedef {{ timetable: Timetable, at: number[], alarms?: FirstAlarms }} ClockState
  * @typedef {{ served: number | bigint, allowance: number | bigint, logged: number,
  *   limit: number }} Bounds
  */
 
+import {
+  ACTION_KINDS, CODE_TEXTS, Code, DEVICES, FORMS, JOB_KINDS, KEYS, Kind, LAYOUT, LEAVING_KINDS, LISTING_KINDS, NUMBERS,
+  PLACES, REPLY_TEXTS, REQUEST_KINDS, STEP_KINDS,
+} from "./library.js";
+import { lineFault, partOf } from "./lines.js";
+
+export { Code, Kind };
+
 /** The release of this module. */
 export const VERSION = "1.0.0";
 
 /** How many numbers an array of words has, and how many phase words there are. */
-export const WORDS = 144;
-export const PHASE_WORDS = 12;
-
-/** What a call lacked: the first that applies. */
-export const Code = Object.freeze({
-  OK: 0,
-  NO_SUCH_SETS: 1,
-  NOT_WORDS: 2,
-  UNLAWFUL: 3,
-  OUT_OF_RANGE: 4,
-  NOT_A_WORD: 5,
-  NOT_NOW: 6,
-  UNTIDY: 8,
-  PLAN_RANGE: 9,
-  TASK_TWICE: 10,
-  PHASE_TWICE: 11,
-  TOO_MANY_AREAS: 12,
-  NOT_SPELLED: 13,
-  NO_ROOM: 14,
-  TIME_RANGE: 15,
-  STEAL_TWICE: 16,
-  COST_TWICE: 17,
-  OUTSIDE: 18,
-  SPENT: 19,
-  LOG_FULL: 20,
-});
-
-/** The kinds of replies. */
-export const Kind = Object.freeze({
-  ESTABLISHED: 1,
-  LEFT: 2,
-  IDLE: 3,
-  ROUSED: 4,
-  NO_SLEEPER: 5,
-  NO_JOB: 6,
-  RUNS: 7,
-  STORED: 8,
-  LISTED: 9,
-  ALARMED: 10,
-  PHASED: 11,
-  TICKED: 12,
-  TICK_ALARMED: 13,
-  RESTARTED: 14,
-});
-
-/** @type {Record<number, string>} */
-const CODE_TEXTS = {
-  [Code.OK]: "the call was served",
-  [Code.NO_SUCH_SETS]: "the number of core sets is neither 7 nor 8",
-  [Code.NOT_WORDS]: "a number of the image is above 077777",
-  [Code.UNLAWFUL]: "the image isn't lawful, or the phase words don't agree",
-  [Code.OUT_OF_RANGE]: "a number of the call is out of its range",
-  [Code.NOT_A_WORD]: "a word of the call is above 077777",
-  [Code.NOT_NOW]: "a task is due, or none is where one has to be",
-  [Code.UNTIDY]: "the image is lawful, and no step leaves it so",
-  [Code.PLAN_RANGE]: "a number of the plan is out of its range",
-  [Code.TASK_TWICE]: "a task has two rows of the plan",
-  [Code.PHASE_TWICE]: "a group's phase has two entries of the plan",
-  [Code.TOO_MANY_AREAS]: "each of six groups wants a VAC area, and there are five",
-  [Code.NOT_SPELLED]: "the line spells no request",
-  [Code.NO_ROOM]: "the text doesn't fit into the room that is lent",
-  [Code.TIME_RANGE]: "a number of the timetable is out of its range",
-  [Code.STEAL_TWICE]: "two rows of stolen time hold at one time",
-  [Code.COST_TWICE]: "one address has two costs",
-  [Code.OUTSIDE]: "the map has a table beyond the end of the memory",
-  [Code.SPENT]: "as many requests were served as the allowance says",
-  [Code.LOG_FULL]: "the log is full, which only a restart or a fresh start empties",
-};
-
-/** @type {Record<number, string>} */
-const REPLY_TEXTS = {
-  [Kind.ESTABLISHED]: "a job was established",
-  [Kind.LEFT]: "the running job ended or sleeps, and another runs",
-  [Kind.IDLE]: "the running job ended or sleeps, and no job is running",
-  [Kind.ROUSED]: "a sleeper was awakened",
-  [Kind.NO_SLEEPER]: "no job sleeps at that address",
-  [Kind.NO_JOB]: "no job is running, so there is none to act on",
-  [Kind.RUNS]: "a job runs",
-  [Kind.STORED]: "a work word was set",
-  [Kind.LISTED]: "a task was listed",
-  [Kind.ALARMED]: "a table is full: an alarm",
-  [Kind.PHASED]: "a phase was set",
-  [Kind.TICKED]: "a tick passed",
-  [Kind.TICK_ALARMED]: "an action raised an alarm in a tick, and an era began",
-  [Kind.RESTARTED]: "an era began by a restart or a fresh start",
-};
-
-/** What each rule of lawful words says, by its number. */
-const RULE_TEXTS = [
-  "no rule is broken",
-  "a word has at most fifteen bits",
-  "a job's number is 1 to the number of core sets",
-  "no two jobs have one number",
-  "LOC of a job is an address, 1 to 037777",
-  "PRIORITY of a job has a priority, 1 to 31",
-  "PRIORITY of a job ends with a VAC area's address, or 0",
-  "no two jobs own one VAC area",
-  "where a job is awake, the job in core set 0 is",
-  "a use word is 0 where a job owns the area, else its address",
-  "NEWJOB names the best job's core set",
-  "TIME3 isn't negative, and is 0 where no task waits",
-  "no task is more than 16250 centiseconds away",
-  "a task's address is 1 to 037777",
-  "LST1 between two tasks is 1 or 0, or negative",
-  "LST1 behind the last task is 057777",
-  "LST2 behind the last task is 0",
-  "a phase is at most 127",
-  "-PHASE is the complement of PHASE",
-  "FAILREG has codes of alarms: the first, the second and the latest",
-  "where no task waits, LST2 has 0, and not ENDTASK",
-];
+export const WORDS = NUMBERS.WORDS;
+export const PHASE_WORDS = NUMBERS.PHASE_WORDS;
 
 /**
  * What a code says, whatever the number.
@@ -177,28 +69,35 @@ export function replyText(kind) {
   return REPLY_TEXTS[kind] ?? "no reply is of this kind";
 }
 
-/** A call that was not served. `code` says what it lacked, `message` the same as a sentence. */
-export class Lacking extends Error {
+/** What was not served. `code` says why, `message` the same as a sentence. */
+export class AgcError extends Error {
   /**
    * @param {number} code
    * @param {string} [sentence]
    */
   constructor(code, sentence) {
     super(sentence || codeText(code));
-    this.name = "Lacking";
+    this.name = "AgcError";
     this.code = code;
   }
 }
 
+/** The name that `AgcError` had. */
+export const Lacking = AgcError;
+
 // The module, and what lies where in its memory behind its own: the words of the machine that was
 // asked last, the words as they were at its last request, a call's numbers and answer, a clock, a text,
 // words from elsewhere, that machine's plan, and behind it that clock's timetable.
+const ROW = LAYOUT.AgcRow.size;
+const ENTRY = LAYOUT.AgcPhaseEntry.size;
 const SIZE = {
-  ...{ words: 288, moment: 288, answer: 40, fired: 72, request: 16, totals: 40, phases: 24 },
-  ...{ clock: 72, text: 2048, other: 288, map: 40, bounds: 24, pulse: 64, actions: 160 },
+  ...{ words: 2 * NUMBERS.WORDS, moment: 2 * NUMBERS.WORDS, other: 2 * NUMBERS.WORDS },
+  ...{ phases: 2 * NUMBERS.PHASE_WORDS, answer: 40, text: NUMBERS.REPORT },
+  ...{ fired: NUMBERS.FIRED * LAYOUT.AgcFired.size, request: LAYOUT.AgcRequest.size },
+  ...{ totals: LAYOUT.AgcTotals.size, clock: LAYOUT.AgcClock.size, scene: LAYOUT.AgcScene.size },
+  ...{ bounds: LAYOUT.AgcBounds.size, pulse: NUMBERS.ACTIONS * LAYOUT.AgcRequest.size, actions: 160 },
 };
-const ROW = 72;
-const ENTRY = 36;
+const { AgcJob: JOB, AgcScene: SCENE, AgcWaiting: WAITING } = LAYOUT;
 const PAGE = 65536;
 
 /** @type {any} */
@@ -259,12 +158,31 @@ export async function start(source) {
 }
 
 /**
+ * What was given, as a message quotes it.
+ * @param {unknown} given
+ */
+function shown(given) {
+  return typeof given === "object" || typeof given === "string" ? JSON.stringify(given) : String(given);
+}
+
+/**
+ * Throws where a thing isn't what it has to be.
+ * @param {Function} kind
+ * @param {string} what
+ * @param {unknown} given
+ */
+function isOf(kind, what, given) {
+  if (given instanceof /** @type {any} */ (kind)) return;
+  throw new TypeError(`${what} has to be a ${kind.name}, and this is ${shown(given)}`);
+}
+
+/**
  * A number as the library takes it: one that has more than 32 bits is out of every range.
  * @param {number} number
  */
 function whole(number) {
   if (!Number.isInteger(number)) {
-    throw new TypeError(`a number has to be an integer, and this is ${String(number)}`);
+    throw new TypeError(`a number has to be an integer, and this is ${shown(number)}`);
   }
   return number >= 0 && number <= 0xffffffff ? number : 0xffffffff;
 }
@@ -279,7 +197,7 @@ function whole(number) {
  */
 function known(what, given, keys, wanted = []) {
   if (typeof given !== "object" || given === null || Array.isArray(given)) {
-    throw new TypeError(`${what} has to be an object, and this is ${JSON.stringify(given)}`);
+    throw new TypeError(`${what} has to be an object, and this is ${shown(given)}`);
   }
   const other = Object.keys(given).find((it) => given[it] !== undefined && !keys.includes(it));
   if (other !== undefined) {
@@ -299,7 +217,7 @@ function known(what, given, keys, wanted = []) {
 function rowsOf(what, given) {
   if (given === undefined) return [];
   if (Array.isArray(given)) return given;
-  throw new TypeError(`${what} has to be an array, and this is ${JSON.stringify(given)}`);
+  throw new TypeError(`${what} has to be an array, and this is ${shown(given)}`);
 }
 
 /**
@@ -318,12 +236,20 @@ function firstBad(lacks, count) {
   return low;
 }
 
-// What a bench or a scenario has besides a plan, for which it may stand, and what a timetable has.
+// What a timetable has, and what documents have at all, of which each may stand for a plan or a timetable.
 const TIMES = ["seconds", "seed", "steal", "job", "event"];
-const DOCUMENT = [
-  ...["title", "sets", "limit", "allowance", "script", "attends", "key", "radar", "power"],
-  ...["worker", "device", "task", "phase", ...TIMES],
-];
+const DOCUMENT = [...new Set([...Object.keys(KEYS.bench), ...Object.keys(KEYS.scenario)])];
+
+/**
+ * Throws where a table hasn't the keys of this level alone, with all that are required.
+ * @param {string} what
+ * @param {any} given
+ * @param {keyof typeof KEYS} level
+ */
+function hasKeys(what, given, level) {
+  const keys = Object.entries(KEYS[level]);
+  known(what, given, keys.map(([name]) => name), keys.flatMap(([name, it]) => (it.required ? [name] : [])));
+}
 
 /**
  * A word or an address: a number, or its five octal digits.
@@ -332,7 +258,7 @@ const DOCUMENT = [
 function octal(given) {
   if (typeof given === "number") return whole(given);
   if (typeof given !== "string") {
-    throw new TypeError(`a word has to be a number or octal digits, and this is ${String(given)}`);
+    throw new TypeError(`a word has to be a number or octal digits, and this is ${shown(given)}`);
   }
   return /^[0-7]{5}$/.test(given) ? parseInt(given, 8) : 0xffffffff;
 }
@@ -348,19 +274,7 @@ function put(line) {
   return BigInt(length);
 }
 
-// Each request's name, and how many numbers it has. The kinds are 1 to 13 in this order.
-const COUNTS = {
-  ...{ novac: 3, findvac: 3, end: 0, sleep: 1, rouse: 1, prio: 1, change: 0, store: 2, list: 3 },
-  ...{ tick: 0, phase: 2, restart: 0, fresh: 0 },
-};
-const KINDS = new Map(
-  Object.entries(COUNTS).map(([name, count], k) => [name, { kind: k + 1, count }]),
-);
-
-// The kinds of an action, of an entry's job and of its task.
-const ACTIONS = [0, 1, 2, 5, 9];
-const STARTS = [1, 2];
-const LISTS = [9];
+const NAMES = [...FORMS.keys()];
 
 /**
  * The text of so many bytes that a call has written.
@@ -371,46 +285,62 @@ function got(length) {
 }
 
 /**
+ * The rule of lawful words that has this number, as a sentence.
+ * @param {number} rule
+ */
+function ruleText(rule) {
+  calls.agc_write_rule(to.answer, rule, to.text, BigInt(SIZE.text));
+  served(numbers[at.answer / 4]);
+  return got(numbers[at.answer / 4 + 1]);
+}
+
+/**
  * Throws the code of a call that was not served.
  * @param {number} code
  */
 function served(code) {
-  if (code !== Code.OK) throw new Lacking(code);
+  if (code !== Code.OK) throw new AgcError(code);
 }
 
 /**
- * Throws that a line isn't of some kinds.
- * @param {string} line
- * @param {string} kinds
+ * Throws what isn't served of a request, and which of its numbers is out of its range.
+ * @param {number} code
+ * @param {string} name
+ * @param {number[]} given
  */
-function notSpelled(line, kinds) {
-  throw new Lacking(Code.NOT_SPELLED, `${JSON.stringify(line)} is no ${kinds}`);
+function rangeFault(code, name, given) {
+  const letters = FORMS.get(name)?.letters ?? "";
+  const k = given.findIndex((it, j) => it < partOf(letters[j]).low || it > partOf(letters[j]).high);
+  if (k === -1) throw new AgcError(code);
+  const { name: what, digits, low, high } = partOf(letters[k]);
+  const [is, least, most] = [given[k], low, high].map((it) => it.toString(digits === 0 ? 10 : 8));
+  throw new AgcError(code, `${what} is ${is}${digits === 0 ? "" : " (octal)"}, and may be ${least} to ${most}`);
 }
 
 /**
- * Reads a line into the place for a request, by the call that reads such lines.
+ * Reads a line of one of these kinds into the place for a request, by the call that reads such lines.
  * @param {Function} call
  * @param {string} line
- * @param {string} kinds
+ * @param {string[]} kinds
+ * @param {string} [where]
  */
-function read(call, line, kinds) {
+function read(call, line, kinds, where = "") {
   if (typeof line !== "string") {
-    throw new TypeError(`a line has to be a string, and this is ${String(line)}`);
+    throw new TypeError(`${where}a line has to be a string, and this is ${shown(line)}`);
   }
-  if (call(to.text, put(line), to.request) !== Code.OK) notSpelled(line, kinds);
+  if (call(to.text, put(line), to.request) === Code.OK && kinds.includes(NAMES[numbers[at.request / 4]])) return;
+  throw new AgcError(Code.NOT_SPELLED, `${where}${JSON.stringify(line)}: ${lineFault(line, kinds)}`);
 }
 
 /**
  * The kind and the numbers of an action, which has to be of one of these kinds.
  * @param {string} line
- * @param {string} names
- * @param {number[]} kinds
+ * @param {string[]} kinds
+ * @param {string} where
  */
-function action(line, names, kinds) {
-  read(calls.agc_read_action, line, names);
-  const found = numbers.slice(at.request / 4, at.request / 4 + 4);
-  if (!kinds.includes(found[0])) notSpelled(line, names);
-  return found;
+function action(line, kinds, where) {
+  read(calls.agc_read_action, line, kinds, where);
+  return numbers.slice(at.request / 4, at.request / 4 + 4);
 }
 
 /**
@@ -419,15 +349,15 @@ function action(line, names, kinds) {
  * @param {number} k
  */
 function rowOf(it, k) {
-  const keys = ["at", "bank", "action"];
-  known(`task ${k + 1} of the plan`, it, [...keys, "name"], keys);
+  const what = `task ${k + 1} of the plan`;
+  hasKeys(what, it, "namedTask");
   const row = new Uint32Array(ROW / 4);
   const actions = Array.isArray(it.action) ? it.action : [it.action];
-  if (actions.length < 1 || actions.length > 4) {
-    throw new Lacking(Code.PLAN_RANGE, `a task has 1 to 4 actions, and this ${actions.length}`);
+  if (actions.length < 1 || actions.length > NUMBERS.ACTIONS) {
+    throw new AgcError(Code.PLAN_RANGE, `${what} has to have one to four actions, and has ${actions.length}`);
   }
   row.set([octal(it.at), octal(it.bank)]);
-  actions.forEach((line, j) => row.set(action(line, "action", ACTIONS), 2 + 4 * j));
+  actions.forEach((line, j) => row.set(action(line, ACTION_KINDS, `${what}, action ${j + 1}: `), 2 + 4 * j));
   return row;
 }
 
@@ -437,12 +367,12 @@ function rowOf(it, k) {
  * @param {number} k
  */
 function entryOf(it, k) {
-  const keys = ["group", "phase", "job", "task", "name"];
-  known(`phase ${k + 1} of the plan`, it, keys, ["group", "phase"]);
+  const what = `phase ${k + 1} of the plan`;
+  hasKeys(what, it, "namedPhase");
   const entry = new Uint32Array(ENTRY / 4);
   entry.set([whole(it.group), whole(it.phase)]);
-  if (it.job !== undefined) entry.set(action(it.job, "novac or findvac", STARTS), 2);
-  if (it.task !== undefined) entry.set(action(it.task, "list", LISTS).subarray(1), 6);
+  if (it.job !== undefined) entry.set(action(it.job, JOB_KINDS, `${what}, job: `), 2);
+  if (it.task !== undefined) entry.set(action(it.task, LISTING_KINDS, `${what}, task: `).subarray(1), 6);
   return entry;
 }
 
@@ -468,7 +398,7 @@ class Lent {
     const inRows = this.#lacks(rows.length, 0) === code;
     const number = inRows ? firstBad((count) => this.#lacks(count, 0) === code, rows.length)
       : firstBad((count) => this.#lacks(0, count) === code, entries.length);
-    throw new Lacking(code, `${inRows ? "task" : "phase"} ${number}: ${codeText(code)}`);
+    throw new AgcError(code, `${inRows ? "task" : "phase"} ${number}: ${codeText(code)}`);
   }
 
   /**
@@ -519,7 +449,7 @@ export class Step {
   /** The line that `agc` writes. */
   get text() {
     numbers.set([0, this.kind, this.number, this.fired.length, this.action], at.answer / 4);
-    this.fired.slice(0, 9).forEach((it, k) => numbers.set([it.at, it.bank], at.fired / 4 + 2 * k));
+    this.fired.slice(0, NUMBERS.FIRED).forEach((it, k) => numbers.set([it.at, it.bank], at.fired / 4 + 2 * k));
     // (what is written tells of itself by the request's place, which is free)
     calls.agc_write_reply(to.request, to.answer, to.fired, to.text, BigInt(SIZE.text));
     served(numbers[at.request / 4]);
@@ -570,7 +500,7 @@ export class Machine {
     const { sets, plan = {}, power, words } = given;
     if (calls === null) throw new TypeError("the module isn't there yet: await start(bytes)");
     leave();
-    this.#sets = whole(sets ?? (words?.length === WORDS ? 8 : 7));
+    this.#sets = whole(sets ?? setsOf(words?.length));
     this.#plan = new Lent(plan);
     if (words !== undefined) {
       this.#take(words);
@@ -614,11 +544,11 @@ export class Machine {
   #numbers(found, size) {
     if (found.length === size) return found;
     const counts = `there have to be ${size} words, and these are ${found.length}`;
-    throw new Lacking(Code.NOT_WORDS, counts);
+    throw new AgcError(Code.NOT_WORDS, counts);
   }
 
   get #size() {
-    return 48 + 12 * this.#sets;
+    return sizeOf(this.#sets);
   }
 
   #leave() {
@@ -641,15 +571,16 @@ export class Machine {
    * @param {number[]} given
    */
   #spell(request, given) {
-    const form = KINDS.get(request);
-    if (form !== undefined && form.count === given.length) {
+    const form = FORMS.get(request);
+    if (form !== undefined && form.letters.length === given.length && form.kind !== 0) {
       const place = at.request / 4;
       numbers[place] = form.kind;
       for (let k = 0; k < given.length; k++) numbers[place + 1 + k] = whole(given[k]);
     } else if (given.length === 0) {
-      read(calls.agc_read_request, request, "request");
+      read(calls.agc_read_request, request, REQUEST_KINDS);
     } else {
-      notSpelled(request, `request of ${given.length} numbers`);
+      const told = `${shown(request)}: no request of this name has ${given.length} numbers`;
+      throw new AgcError(Code.NOT_SPELLED, told);
     }
   }
 
@@ -676,7 +607,7 @@ export class Machine {
     if (request instanceof Asked) this.#spell(request.name, request.numbers);
     else this.#spell(request, given);
     this.#step(calls.agc_step_trusted);
-    served(numbers[at.answer / 4]);
+    if (numbers[at.answer / 4] !== Code.OK) rangeFault(numbers[at.answer / 4], request.toString(), given);
     this.#count();
     return this.#reply();
   }
@@ -709,8 +640,9 @@ export class Machine {
    * @param {(asked: Asked, step: Step, time: number) => unknown} [row]
    */
   run(clock, centiseconds, row) {
+    isOf(Clock, "what a machine runs by", clock);
     if (centiseconds < 0) {
-      throw new Lacking(Code.OUT_OF_RANGE, `time can't go back, by ${centiseconds} centiseconds`);
+      throw new AgcError(Code.OUT_OF_RANGE, `time can't go back, by ${centiseconds} centiseconds`);
     }
     const end = clock.time + whole(centiseconds);
     for (let count = 0; ; count++) {
@@ -731,6 +663,14 @@ export class Machine {
   enter() {
     if (asked !== this) this.#enter();
     return at.plan + this.#plan.numbers.byteLength;
+  }
+
+  /** Who runs, and how many jobs, tasks and alarms there are. */
+  toString() {
+    const { running, sets, tasks } = this.scene();
+    const alarms = this.#totals.alarms.reduce((sum, it) => sum + it, 0);
+    const who = running === 0 ? "no job is running" : `job ${running} runs`;
+    return `<Machine: ${who}; jobs: ${sets.filter((it) => it !== null).length}, tasks: ${tasks.length}, alarms: ${alarms}>`;
   }
 
   /** How many core sets there are: 7 or 8. */
@@ -759,7 +699,9 @@ export class Machine {
 
   /** What the words say, as `sceneOf` has it. */
   scene() {
-    return sceneIn(this.words);
+    if (asked === this) return sceneAt(to.words, this.#sets);
+    halves.set(this.#words, at.other / 2);
+    return sceneAt(to.other, this.#sets);
   }
 
   /** All of it, of which JSON can be made, for `Machine.of`. */
@@ -779,7 +721,7 @@ export class Machine {
     const made = new Machine({ sets: state.sets, plan: state.plan, words: state.words });
     const { served: count, alarms, restarts } = state.totals;
     if ([count, ...alarms, restarts].some((it) => !(Number.isSafeInteger(it) && it >= 0))) {
-      throw new Lacking(Code.OUT_OF_RANGE, "a count has to be an integer, 0 or more");
+      throw new AgcError(Code.OUT_OF_RANGE, "a count has to be an integer, 0 or more");
     }
     checked(state.moment, made.#size);
     leave();
@@ -812,15 +754,6 @@ export class Machine {
   }
 }
 
-// How each request's numbers are written: so many octal digits, or in decimal where that is 0.
-/** @type {Record<string, number[]>} */
-const WIDTHS = {
-  ...{ novac: [2, 5, 5], findvac: [2, 5, 5], end: [], sleep: [5], rouse: [5], prio: [2] },
-  ...{ change: [], store: [0, 5], list: [0, 5, 5], tick: [], phase: [0, 0], restart: [] },
-  fresh: [],
-};
-const NAMES = [...KINDS.keys()];
-
 /** A request that a clock gave: its name, its numbers, and who asks for it. */
 export class Asked {
   /**
@@ -838,8 +771,8 @@ export class Asked {
   /** What a clock has written. */
   static read() {
     const place = at.request / 4;
-    const name = NAMES[numbers[place] - 1];
-    const count = WIDTHS[name].length;
+    const name = NAMES[numbers[place]];
+    const count = FORMS.get(name)?.letters.length ?? 0;
     // (most are ticks, which have none)
     const given = count === 0 ? [] : Array.from(numbers.subarray(place + 1, place + 1 + count));
     const source = numbers[at.answer / 4 + 1];
@@ -848,9 +781,10 @@ export class Asked {
 
   /** Its line, as in a script. */
   get text() {
+    const { letters = "" } = FORMS.get(this.name) ?? {};
     const shown = this.numbers.map((it, k) => {
-      const width = WIDTHS[this.name][k];
-      return width === 0 ? String(it) : it.toString(8).padStart(width, "0");
+      const { digits } = partOf(letters[k]);
+      return digits === 0 ? String(it) : it.toString(8).padStart(digits, "0");
     });
     return [this.name, ...shown].join(" ");
   }
@@ -874,13 +808,13 @@ const WORD = 0xffffffffn;
 export function refusalOf(request, bounds) {
   if (calls === null) throw new TypeError("the module isn't there yet: await start(bytes)");
   known("the bounds", bounds, BOUNDS, BOUNDS);
-  read(calls.agc_read_request, request, "request");
+  read(calls.agc_read_request, request, REQUEST_KINDS);
   BOUNDS.forEach((name, k) => {
     const it = Reflect.get(bounds, name);
     const [low, high] = typeof it === "bigint" ? [Number(it & WORD), Number(it >> 32n)]
       : [it % 2 ** 32, Math.floor(it / 2 ** 32)];
     if (!(Number.isInteger(low) && high >= 0 && high < (k < 2 ? 2 ** 32 : 1))) {
-      throw new Lacking(Code.OUT_OF_RANGE, `${name} can't be ${it}`);
+      throw new AgcError(Code.OUT_OF_RANGE, `${name} can't be ${it}`);
     }
     const place = at.bounds / 4 + (k < 2 ? 2 * k : k + 2);
     numbers[place] = low;
@@ -889,9 +823,8 @@ export function refusalOf(request, bounds) {
   return calls.agc_refusal(to.request, to.bounds);
 }
 
-/** The lines of devices, and the most actions that are handed on: one too many is told so. */
-const LINES = ["timer", "key", "radar"];
-const MOST_ACTIONS = 5;
+/** The most actions that are handed on: one too many is told so. */
+const MOST_ACTIONS = NUMBERS.ACTIONS + 1;
 
 /**
  * The lines of what a pulse of a device asks for, where `line` is "timer", "key" or "radar": a tick,
@@ -903,53 +836,40 @@ const MOST_ACTIONS = 5;
 export function pulseOf(line, plan = {}) {
   if (calls === null) throw new TypeError("the module isn't there yet: await start(bytes)");
   known("a plan of pulses", plan, DOCUMENT);
-  const found = [plan.key ?? [], plan.radar ?? []].map((it) => (Array.isArray(it) ? it : [it])
-    .slice(0, MOST_ACTIONS).map((text) => action(text, "action", ACTIONS)));
+  const found = ["key", "radar"].map((name) => [Reflect.get(plan, name) ?? []].flat()
+    .slice(0, MOST_ACTIONS).map((text, k) => action(text, ACTION_KINDS, `${name}, action ${k + 1}: `)));
   found.forEach((it, k) => it.forEach((row, j) =>
     numbers.set(row, at.actions / 4 + 4 * (MOST_ACTIONS * k + j))));
   const second = to.actions + BigInt(16 * MOST_ACTIONS);
-  const number = LINES.includes(line) ? LINES.indexOf(line) : LINES.length;
+  const number = DEVICES.includes(line) ? DEVICES.indexOf(line) : DEVICES.length;
   const [key, radar] = found.map((it) => BigInt(it.length));
   calls.agc_pulse(to.answer, number, to.actions, key, second, radar, to.pulse);
   served(numbers[at.answer / 4]);
   return Array.from({ length: numbers[at.answer / 4 + 1] }, (_, k) => {
     const [kind, ...given] = numbers.subarray(at.pulse / 4 + 4 * k, at.pulse / 4 + 4 * k + 4);
-    const name = NAMES[kind - 1];
-    return new Asked(name, given.slice(0, WIDTHS[name].length), null).text;
+    const name = NAMES[kind];
+    return new Asked(name, given.slice(0, FORMS.get(name)?.letters.length), null).text;
   });
 }
 
-const STOLEN = 20;
-const COST = 24;
-const EVENT = 24;
-const REQUEST = 16;
-const LAST_TIME = 8640000;
-const LAST_SEED = 2147483646;
+const STOLEN = LAYOUT.AgcStolen.size;
+const COST = LAYOUT.AgcCost.size;
+const EVENT = LAYOUT.AgcEvent.size;
+const REQUEST = LAYOUT.AgcRequest.size;
+const LAST_TIME = Number(KEYS.event.at.high);
+const LAST_SEED = Number(KEYS.scenario.seed.high);
 /** Where a clock's lot is among its words of 32 bits. */
-const LOT = 16;
-
-const STEPS = ["novac", "findvac", "prio", "store", "list", "phase"];
+const LOT = LAYOUT.AgcClock.lot / 4;
 
 /**
- * What a job asks for before it leaves.
+ * The kind and the numbers of a request, which has to be of one of these kinds.
  * @param {string} line
+ * @param {string[]} kinds
+ * @param {string} where
  */
-function stepOf(line) {
-  read(calls.agc_read_request, line, "request");
-  const found = Array.from(numbers.subarray(at.request / 4, at.request / 4 + 4));
-  if (!STEPS.includes(NAMES[found[0] - 1])) notSpelled(line, STEPS.join(", "));
-  return found;
-}
-
-/**
- * How a job leaves: 0 for its end, or the address at which it sleeps.
- * @param {string} then
- */
-function thenOf(then) {
-  if (then === "end") return 0;
-  read(calls.agc_read_request, then, "end or sleep");
-  if (NAMES[numbers[at.request / 4] - 1] !== "sleep") notSpelled(then, "end or sleep");
-  return numbers[at.request / 4 + 1];
+function requestOf(line, kinds, where) {
+  read(calls.agc_read_request, line, kinds, where);
+  return numbersAt(at.request, 4);
 }
 
 /**
@@ -959,11 +879,11 @@ function thenOf(then) {
 function centiseconds(seconds) {
   const found = Math.round(100 * Number(seconds));
   if (!(Math.abs(100 * seconds - found) < 1e-6)) {
-    throw new Lacking(Code.TIME_RANGE, `seconds has to be whole centiseconds, and is ${seconds}`);
+    throw new AgcError(Code.TIME_RANGE, `seconds has to be whole centiseconds, and is ${seconds}`);
   }
   if (found >= 0 && found <= LAST_TIME) return found;
   const told = `a timetable lasts at most ${LAST_TIME / 100} seconds, and this ${seconds}`;
-  throw new Lacking(Code.TIME_RANGE, told);
+  throw new AgcError(Code.TIME_RANGE, told);
 }
 
 /**
@@ -975,7 +895,7 @@ function centiseconds(seconds) {
 function again(where, row) {
   const every = whole(row.every ?? 0);
   if (row.every !== undefined && every === 0) {
-    throw new Lacking(Code.TIME_RANGE, `${where}: every has to be 1 or more`);
+    throw new AgcError(Code.TIME_RANGE, `${where}: every has to be 1 or more`);
   }
   return [every, whole(row.until ?? LAST_TIME)];
 }
@@ -987,11 +907,11 @@ function again(where, row) {
  */
 function costsOf(where, cost) {
   if (typeof cost !== "object") return [whole(cost), whole(cost)];
-  known(`${where}: cost`, cost, ["from", "to"], ["from", "to"]);
+  hasKeys(`${where}: cost`, cost, "cost");
   const [least, most] = [whole(cost.from), whole(cost.to)];
   if (least >= 1 && least <= most) return [least, most];
   const told = `from 1 or more to as much or more, and not from ${least} to ${most}`;
-  throw new Lacking(Code.TIME_RANGE, `${where}: a cost is ${told}`);
+  throw new AgcError(Code.TIME_RANGE, `${where}: a cost is ${told}`);
 }
 
 /**
@@ -1004,10 +924,10 @@ function seedOf(seed, costs) {
   if (seed === undefined && byLot === -1) return 0;
   if (seed === undefined) {
     const told = `job ${byLot + 1}: its cost is by lot, and there is no seed`;
-    throw new Lacking(Code.TIME_RANGE, told);
+    throw new AgcError(Code.TIME_RANGE, told);
   }
   if (whole(seed) >= 1 && seed <= LAST_SEED) return seed;
-  throw new Lacking(Code.TIME_RANGE, `seed has to be 1 to ${LAST_SEED}, and is ${seed}`);
+  throw new AgcError(Code.TIME_RANGE, `seed has to be 1 to ${LAST_SEED}, and is ${seed}`);
 }
 
 /** From what an event without `after` counts: the start. */
@@ -1030,13 +950,12 @@ function alarmed(code) {
 function placed(events) {
   const firsts = new Map();
   return events.map((it, k) => {
-    const needed = ["at", "do"];
-    known(`event ${k + 1}`, it, [...needed, "after", "every", "until", "name"], needed);
+    hasKeys(`event ${k + 1}`, it, "event");
     const { after, name } = it;
     const base = after === undefined ? START : firsts.get(after) ?? ALARMS.get(after);
     if (base === undefined) {
       const told = `event ${k + 1}: no event above it is called ${JSON.stringify(after)}`;
-      throw new Lacking(Code.TIME_RANGE, told);
+      throw new AgcError(Code.TIME_RANGE, told);
     }
     const { alarm, from } = base;
     const first = Math.max(alarm && 1, Math.min(from + whole(it.at), LAST_TIME + 1));
@@ -1061,21 +980,21 @@ class LentTimes {
     const requests = [];
     this.lasts = centiseconds(seconds);
     this.stolen = stolen.map((it, k) => {
-      const needed = ["from", "to", "percent"];
-      known(`steal ${k + 1}`, it, [...needed, "every", "until"], needed);
+      hasKeys(`steal ${k + 1}`, it, "steal");
       return [whole(it.from), whole(it.to), whole(it.percent), ...again(`steal ${k + 1}`, it)];
     });
     this.costs = job.map((it, k) => {
-      const keys = ["at", "cost", "then", "deadline", "name"];
-      known(`job ${k + 1}`, it, keys, ["at", "cost"]);
+      hasKeys(`job ${k + 1}`, it, "job");
       const lines = Array.isArray(it.then) ? it.then : [it.then ?? "end"];
       if (lines.length < 1 || lines.length > 8) {
         const told = `job ${k + 1}: then has to have 1 to 8 lines, and has ${lines.length}`;
-        throw new Lacking(Code.TIME_RANGE, told);
+        throw new AgcError(Code.TIME_RANGE, told);
       }
       const first = requests.length;
-      requests.push(...lines.slice(0, -1).map(stepOf));
-      const leaves = thenOf(lines[lines.length - 1]);
+      const where = `job ${k + 1}, then: `;
+      requests.push(...lines.slice(0, -1).map((line) => requestOf(line, STEP_KINDS, where)));
+      // (of an end the address is 0)
+      const [, leaves] = requestOf(lines[lines.length - 1], LEAVING_KINDS, where);
       const [least, most] = costsOf(`job ${k + 1}`, it.cost);
       const [hundredths, spread] = [whole(100 * most), whole(100 * (most - least))];
       return [octal(it.at), hundredths, leaves, first, lines.length - 1, spread];
@@ -1083,10 +1002,7 @@ class LentTimes {
     this.events = placed(event).map((it, k) => {
       const lines = Array.isArray(it.do) ? it.do : [it.do];
       const first = requests.length;
-      lines.forEach((line) => {
-        read(calls.agc_read_request, line, "request");
-        requests.push(Array.from(numbers.subarray(at.request / 4, at.request / 4 + 4)));
-      });
+      requests.push(...lines.map((line) => requestOf(line, REQUEST_KINDS, `event ${k + 1}, do: `)));
       return [whole(it.at), ...again(`event ${k + 1}`, it), first, lines.length, it.alarm];
     });
     this.requests = requests;
@@ -1109,9 +1025,9 @@ class LentTimes {
         return this.#checked(...parts, requests) === code;
       };
       if (!lacks(rows.length)) continue;
-      throw new Lacking(code, `${name} ${firstBad(lacks, rows.length)}: ${codeText(code)}`);
+      throw new AgcError(code, `${name} ${firstBad(lacks, rows.length)}: ${codeText(code)}`);
     }
-    throw new Lacking(code);
+    throw new AgcError(code);
   }
 
   /** @param {number[][][]} parts */
@@ -1184,11 +1100,11 @@ function timesOf(given) {
 function alarmsOf(alarms) {
   known("a clock's alarms", alarms, [...ALARMS.keys()]);
   if (Object.values(alarms).every((it) => it >>> 0 === it && it <= LAST_TIME)) return { ...alarms };
-  throw new Lacking(Code.TIME_RANGE, "an alarm comes at a centisecond of the first day");
+  throw new AgcError(Code.TIME_RANGE, "an alarm comes at a centisecond of the first day");
 }
 
 /**
- * A clock: it lets time pass by a timetable, as docs/MODEL.md says, and gives what a machine is asked
+ * A clock: it lets time pass by a timetable, as docs/TIME.md says, and gives what a machine is asked
  * next. `timetable` has `seconds`, `steal`, `job` and `event` as a scenario has them, and all may be
  * missing. The cost of a job may be by lot, `{ from: 150, to: 190 }`, and then there has to be a
  * `seed`, 1 to 2147483646. A clock goes with one machine, and is told of all that this is asked.
@@ -1242,7 +1158,7 @@ export class Clock {
     const [time, event, asks, looks, left, ...given] = rowsOf("at", state.at);
     const all = [time, 0, event, 0, asks, 0, looks, left, ...given];
     if (given.length !== 9 || looks > 1 || all.some((it) => !(it >>> 0 === it))) {
-      throw new Lacking(Code.OUT_OF_RANGE, "a clock's state has fourteen numbers of 32 bits");
+      throw new AgcError(Code.OUT_OF_RANGE, "a clock's state has fourteen numbers of 32 bits");
     }
     made.#state.set(new Uint8Array(Uint32Array.from(all).buffer));
     return made;
@@ -1334,6 +1250,7 @@ export class Clock {
    * @returns {Asked | null}
    */
   next(machine) {
+    isOf(Machine, "what a clock is for", machine);
     return this.give(machine, 0xffffffff) ? Asked.read() : null;
   }
 
@@ -1343,6 +1260,8 @@ export class Clock {
    * @param {Step} step
    */
   served(machine, step) {
+    isOf(Machine, "what a clock is for", machine);
+    isOf(Step, "what came of a request", step);
     this.#enter(machine);
     const { kind, number, fired, action: raised } = step;
     numbers.set([0, kind, number, fired.length, raised], at.answer / 4);
@@ -1399,48 +1318,20 @@ export class Clock {
   }
 }
 
-const AREAS = [0o300, 0o354, 0o430, 0o504, 0o560];
-const FREE = 0o77777;
-
 /**
- * The value of a word in ones' complement.
- * @param {number} word
+ * How many core sets so many words have.
+ * @param {number} [size]
  */
-function value(word) {
-  return word <= 0o37777 ? word : word - FREE;
+function setsOf(size) {
+  return size === WORDS ? NUMBERS.MOST_SETS : NUMBERS.MOST_SETS - 1;
 }
 
 /**
- * The job of a core set, or null.
- * @param {number[]} set
+ * How many words there are with so many core sets.
+ * @param {number} sets
  */
-function jobOf(set) {
-  if (set[11] === FREE) return null;
-  const asleep = set[11] > 0o37777;
-  const packed = asleep ? FREE - set[11] : set[11];
-  return {
-    number: set[0],
-    priority: packed >> 9,
-    at: set[8],
-    bank: set[9],
-    asleep,
-    area: AREAS.indexOf(packed & 0o777) + 1,
-    work: Array.from(set.slice(1, 7)),
-  };
-}
-
-/**
- * The tasks that wait, in the order in which they come due.
- * @param {number[]} words
- */
-function tasksOf(words) {
-  const found = [];
-  let left = words[90] === 0 ? 0 : 16384 - words[90];
-  for (let k = 0; k < 9 && words[99 + 2 * k] !== 0; k++) {
-    if (k > 0) left += 1 - value(words[90 + k]);
-    found.push({ at: words[99 + 2 * k], bank: words[100 + 2 * k], left });
-  }
-  return found;
+function sizeOf(sets) {
+  return sets === NUMBERS.MOST_SETS ? WORDS : NUMBERS.LAST_SET;
 }
 
 /**
@@ -1453,9 +1344,9 @@ function counted(words, size) {
   const found = Array.from(words, whole);
   if (found.length !== size) {
     const counts = `there have to be ${size} words, and these are ${found.length}`;
-    throw new Lacking(Code.NOT_WORDS, counts);
+    throw new AgcError(Code.NOT_WORDS, counts);
   }
-  if (found.some((it) => it > 0xffff)) throw new Lacking(Code.NOT_WORDS);
+  if (found.some((it) => it > 0xffff)) throw new AgcError(Code.NOT_WORDS);
   return found;
 }
 
@@ -1466,15 +1357,10 @@ function counted(words, size) {
  */
 function checked(words, size) {
   halves.set(counted(words, size), at.other / 2);
-  const sets = size === WORDS ? 8 : 7;
+  const sets = setsOf(size);
   calls.agc_check(to.answer, to.other, sets);
   lawful(numbers[at.answer / 4], to.other, sets);
 }
-
-const SET_WORDS = [
-  ...["MPAC", "MPAC+1", "MPAC+2", "MPAC+3", "MPAC+4", "MPAC+5", "MPAC+6"],
-  ...["MODE", "LOC", "BANKSET", "PUSHLOC", "PRIORITY"],
-];
 
 /**
  * What a place of the words is called: "LOC of core set 2", "VAC 1", "NEWJOB", "LST1 0",
@@ -1483,17 +1369,9 @@ const SET_WORDS = [
  */
 export function placeName(place) {
   if (!(Number.isInteger(place) && place >= 0 && place < WORDS)) {
-    throw new Lacking(Code.OUT_OF_RANGE, `there is no word ${place}`);
+    throw new AgcError(Code.OUT_OF_RANGE, `there is no word ${place}`);
   }
-  if (place < 84 || place >= 132) {
-    return `${SET_WORDS[place % 12]} of core set ${Math.min(Math.floor(place / 12), 7)}`;
-  }
-  if (place >= 129) return `FAILREG ${place - 129}`;
-  const [k, second] = [Math.floor((place - 99) / 2), (place - 99) % 2 === 1];
-  if (place >= 117) return `${second ? "PHASE" : "-PHASE"} of group ${k - 8}`;
-  if (place >= 99) return `LST2 ${k}, the ${second ? "bank" : "address"}`;
-  if (place >= 91) return `LST1 ${place - 91}`;
-  return place >= 89 ? ["NEWJOB", "TIME3"][place - 89] : `VAC ${place - 83}`;
+  return PLACES[place];
 }
 
 /**
@@ -1506,10 +1384,10 @@ function findingAt(words, sets) {
   calls.agc_explain(to.answer, words, sets);
   const [code, rule, place, found, right] = numbers.slice(at.answer / 4, at.answer / 4 + 5);
   if (code !== Code.NOT_WORDS && code !== Code.UNLAWFUL) return null;
-  const wanted = right === 0xffff ? null : right;
+  const wanted = right === NUMBERS.ANY ? null : right;
   const [is, would] = [found, right].map((it) => it.toString(8).padStart(5, "0"));
   const other = wanted === null ? "" : `, and would have to be ${would}`;
-  const text = `${placeName(place)} (word ${place}) is ${is}${other}: ${RULE_TEXTS[rule]}`;
+  const text = `${placeName(place)} (word ${place}) is ${is}${other}: ${ruleText(rule)}`;
   return { rule, place, found, wanted, text };
 }
 
@@ -1519,8 +1397,8 @@ function findingAt(words, sets) {
  * @returns {Finding | null}
  */
 export function findingOf(words) {
-  const sets = words.length === WORDS ? 8 : 7;
-  halves.set(counted(words, 48 + 12 * sets), at.other / 2);
+  const sets = setsOf(words.length);
+  halves.set(counted(words, sizeOf(sets)), at.other / 2);
   return findingAt(to.other, sets);
 }
 
@@ -1533,7 +1411,7 @@ export function findingOf(words) {
 function lawful(code, words, sets) {
   if (code === Code.OK) return;
   const finding = findingAt(words, sets);
-  throw new Lacking(code, finding === null ? codeText(code) : `${codeText(code)}: ${finding.text}`);
+  throw new AgcError(code, finding === null ? codeText(code) : `${codeText(code)}: ${finding.text}`);
 }
 
 /**
@@ -1545,101 +1423,68 @@ function lawful(code, words, sets) {
  * @returns {Scene}
  */
 export function sceneOf(words) {
-  checked(words, words.length === WORDS ? WORDS : WORDS - 12);
-  return sceneIn(words);
+  const sets = setsOf(words.length);
+  checked(words, sizeOf(sets));
+  return sceneAt(to.other, sets);
 }
 
 /**
- * What lawful words say.
- * @param {ArrayLike<number>} words
- * @returns {Scene}
- */
-function sceneIn(words) {
-  const all = Array.from(words);
-  const blocks = [0, 1, 2, 3, 4, 5, 6, ...(all.length === WORDS ? [11] : [])];
-  const sets = blocks.map((it) => jobOf(all.slice(12 * it, 12 * it + 12)));
-  const next = all[89] === FREE ? 0 : all[89] / 12;
-  return {
-    running: sets[0] !== null && !sets[0].asleep ? sets[0].number : 0,
-    next: next === 0 ? 0 : sets[next]?.number ?? 0,
-    sets,
-    areas: AREAS.map((_, k) => sets.find((it) => it?.area === k + 1)?.number ?? 0),
-    tasks: tasksOf(all),
-    phases: [1, 2, 3, 4, 5, 6].map((group) => all[116 + 2 * group]),
-    codes: all.slice(129, 132),
-  };
-}
-
-const MAP = ["sets", "mpac", "vac1use", "newjob", "time3", "lst1", "lst2", "phase1", "failreg"];
-
-/**
- * What a call answers of the memory that lies in the module's.
- * @param {Function} call
+ * So many numbers of 32 bits that a call has written, from a place on.
+ * @param {number} place
  * @param {number} count
- * @param {number} number
  */
-function ofCore(call, count, number) {
-  call(to.answer, to.plan, BigInt(count), to.map, number);
-  const found = numbers.slice(at.answer / 4, at.answer / 4 + 10);
-  served(found[0]);
+function numbersAt(place, count) {
+  const found = [];
+  for (let k = place / 4; found.length < count; k++) found.push(numbers[k]);
   return found;
 }
 
 /**
- * The tables in the erasable memory of a real computer or an emulator, by a map of addresses, which
- * are numbers or their five octal digits. `skip` is how many numbers come before the memory, and
- * `endtask` what LST2 has where no task waits; both may be left out. Real jobs have no numbers, so
- * theirs are those of their core sets, from 1. `odd` is what a model wouldn't hold. Only a map is
- * refused.
- * @param {ArrayLike<number>} memory
- * @param {CoreMap} map
- * @returns {Core}
+ * The job that a call has written there, or null.
+ * @param {number} place
+ * @returns {Job | null}
  */
-export function readCore(memory, map) {
-  known("a map", map, [...MAP, "endtask", "skip"], MAP);
-  const skipped = Array.from(memory).slice(whole(map.skip ?? 0));
-  const words = counted(skipped, skipped.length);
-  leave();
-  reach(at.plan + 2 * words.length);
-  halves.set(words, at.plan / 2);
-  const places = [...MAP, "endtask"].map((it) => octal(Reflect.get(map, it) ?? 0));
-  numbers.set(places, at.map / 4);
-  /** @type {(call: Function, number: number) => Uint32Array} */
-  const of = (call, number) => ofCore(call, words.length, number);
-  of(calls.agc_core_at, 0);
-  const cells = Array.from({ length: 48 + 12 * map.sets }, (_, k) => of(calls.agc_core_at, k));
-  const jobs = Array.from({ length: map.sets }, (_, k) => of(calls.agc_core_job, k));
-  const tasks = Array.from({ length: 9 }, (_, k) => of(calls.agc_core_task, k));
-  const found = cells.map((it) => it[2]);
+function jobAt(place) {
+  const number = numbers[(place + JOB.number) / 4];
+  if (number === 0) return null;
+  const work = [];
+  for (let k = 0; k < NUMBERS.WORK; k++) work.push(halves[(place + JOB.work) / 2 + k]);
   return {
-    sets: jobs.map((it) => (it[1] === 0 ? null : heldOf(it))),
-    taken: found.slice(84, 89).map((it) => it === 0),
-    tasks: tasks.filter((it) => it[1]).map(([, at, bank, left]) => ({ at, bank, left })),
-    phases: [1, 2, 3, 4, 5, 6].map((group) => found[116 + 2 * group]),
-    codes: found.slice(129, 132),
-    newjob: found[89],
-    odd: cells.flatMap((it, place) => (it[3] === 0 ? [] : [oddOf(it, place)])),
+    number,
+    priority: numbers[(place + JOB.priority) / 4],
+    at: numbers[(place + JOB.at) / 4],
+    bank: numbers[(place + JOB.bank) / 4],
+    asleep: bytes[place + JOB.asleep] !== 0,
+    area: numbers[(place + JOB.area) / 4],
+    work,
   };
 }
 
 /**
- * The job that a call answers.
- * @param {Uint32Array} answer
- * @returns {Job}
+ * What the tables of words in the module's memory hold.
+ * @param {bigint} words
+ * @param {number} sets
+ * @returns {Scene}
  */
-function heldOf(answer) {
-  const [, number, priority, at, bank, area, asleep] = answer;
-  return { number, priority, at, bank, asleep: (asleep & 1) === 1, area, work: [0, 0, 0, 0, 0, 0] };
-}
-
-/**
- * What a model wouldn't hold at a place.
- * @param {Uint32Array} answer
- * @param {number} place
- * @returns {Odd}
- */
-function oddOf([, at, found, rule], place) {
-  const [where, is] = [at, found].map((it) => it.toString(8).padStart(5, "0"));
-  const text = `${placeName(place)} (at ${where}) is ${is}: ${RULE_TEXTS[rule]}`;
-  return { rule, place, at, found, text };
+function sceneAt(words, sets) {
+  served(calls.agc_scene(words, sets, to.scene));
+  const place = at.scene;
+  const jobs = [];
+  for (let k = 0; k < sets; k++) jobs.push(jobAt(place + SCENE.sets + JOB.size * k));
+  const tasks = [];
+  for (let k = 0; k < NUMBERS.TASKS; k++) {
+    const task = place + SCENE.tasks + WAITING.size * k;
+    const where = numbers[(task + WAITING.at) / 4];
+    if (where === 0) break;
+    tasks.push({ at: where, bank: numbers[(task + WAITING.bank) / 4], left: numbers[(task + WAITING.left) / 4] });
+  }
+  return {
+    running: numbers[(place + SCENE.running) / 4],
+    next: numbers[(place + SCENE.next) / 4],
+    sets: jobs,
+    areas: numbersAt(place + SCENE.areas, NUMBERS.AREAS),
+    tasks,
+    phases: Array.from(bytes.subarray(place + SCENE.phases, place + SCENE.phases + NUMBERS.GROUPS)),
+    codes: numbersAt(place + SCENE.failreg, NUMBERS.CODES),
+  };
 }

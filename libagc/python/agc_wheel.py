@@ -1,4 +1,4 @@
-"""Builds the packages of `agc`, as pip asks for them: a wheel of agc.py and the shared library beside it, and a source
+"""Builds the packages of `agc`, as pip asks for them: a wheel of the modules and the shared library beside them, and a source
 package that builds such a wheel on any machine with a C compiler.
 
 The library is ../out/libagc.so, the proved archive's, where that is there. Else the one C99 file agc.c is compiled, by what
@@ -21,6 +21,7 @@ MADE = (2026, 1, 1, 0, 0, 0)
 # What a source package has besides this file: each name in it, and where that may be.
 SOURCES = {
     "agc.py": ["agc.py"],
+    "agc_library.py": ["agc_library.py"],
     "agc_wheel.py": ["agc_wheel.py"],
     "pyproject.toml": ["pyproject.toml"],
     "VERSION": ["VERSION", "../../VERSION"],
@@ -79,6 +80,7 @@ def build_wheel(wheel_directory, config_settings=None, metadata_directory=None):
         "agc/__init__.py": _bytes_of(_place_of("agc.py")),
         "agc/libagc.so": _library(),
         "agc/py.typed": b"",
+        "agc_library.py": _bytes_of(_place_of("agc_library.py")),
         f"{about}/METADATA": _metadata(),
         f"{about}/WHEEL": f"Wheel-Version: 1.0\nGenerator: agc_wheel\nRoot-Is-Purelib: false\nTag: {tag}\n".encode(),
     }

@@ -21,8 +21,8 @@ def timed(name, call, begin):
 
 
 def main():
-    image = agc.Image(7)
-    timed("ctypes, Image.novac", lambda priority: image.novac(priority, 0o2000, 5), image.clear)
+    made = agc.Machine(7)
+    timed("Machine.ask", lambda priority: made.ask("novac", priority, 0o2000, 5), lambda: made.ask("fresh"))
     words = (agc.c_uint16 * agc.WORDS)()
     clear = lambda: agc.library.agc_clear(words, 7)
     timed("ctypes, agc_novac", lambda priority: agc.library.agc_novac(words, 7, priority, 0o2000, 5), clear)

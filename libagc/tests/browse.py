@@ -2,7 +2,7 @@
 
     browse.py REQUESTS STEPS SCENES
 
-REQUESTS are script lines, STEPS and SCENES what eras.py writes. The modules come from a server of this process, at an
+REQUESTS are script lines, STEPS and SCENES what inputs.py writes. The modules come from a server of this process, at an
 address of this machine. Where no browser is found, it says that nothing was tried. Fails where something differs.
 """
 

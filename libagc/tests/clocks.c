@@ -1,4 +1,4 @@
-/* Reads the scenarios that clocks.py makes, lets time pass by agc_clock_next, and writes what clocks.py writes of them.
+/* Reads the scenarios that inputs.py makes, lets time pass by agc_clock_next, and writes what inputs.py writes of them.
    clocks checked|trusted */
 #define AGC_IGNORE_ANSWERS
 #include "agc.h"
@@ -7,7 +7,7 @@
 #include <stdlib.h>
 #include <string.h>
 
-enum { MOST = 64 };
+enum { MOST = 256 };
 
 static uint16_t words[AGC_WORDS], moment[AGC_WORDS];
 static uint32_t sets, lasts;

@@ -1,4 +1,4 @@
-// Reads the scenarios that clocks.py makes, lets time pass by a `Clock`, and writes what clocks.py writes of them. Each
+// Reads the scenarios that inputs.py makes, lets time pass by a `Clock`, and writes what inputs.py writes of them. Each
 // centisecond of a run is asked by `run`, and of a copy request by request, which has to leave the same.
 //
 //     node clocks.mjs AGC_JS

@@ -1,15 +1,7 @@
-"""Scenarios for the callers of a clock, and what they have to write, by a rule of its own.
-
-    clocks.py make SEED COUNT     prints random scenarios, a line each part
-    clocks.py plain               reads them, and writes what is asked and replied: time passes by the plain rule below,
-                                  hundredth by hundredth, over `Machine` alone
-    clocks.py clock               the same by `Clock`
-
-Lines are `scenario SETS SECONDS SEED`, `task AT BANK|ACTION|..`, `phase GROUP PHASE|JOB|TASK`, `steal FROM TO PERCENT EVERY
-UNTIL`, `job AT LEAST MOST|THEN|..`, `event AT EVERY UNTIL AFTER|LINE|..` (AFTER is 0 or an alarm), `run CENTISECONDS`, `hand LINE`. Each request that is asked gets a line:
-the centisecond, who asks (0 a person, 1 the clock, from 2 on the events), its kind and numbers, and the reply.
+"""Reads the scenarios that inputs.py makes, lets time pass by a `Clock`, and writes what inputs.py writes of them. Each
+request that is asked gets a line: the centisecond, who asks (0 a person, 1 the clock, from 2 on the events), its kind and
+numbers, and the reply. Tries what a clock refuses, and keeps, too.
 """
-import random
 import sys
 
 from agc import Clock, Lacking, Machine
@@ -17,61 +9,6 @@ from agc import Clock, Lacking, Machine
 KINDS = ["", "novac", "findvac", "end", "sleep", "rouse", "prio", "change", "store", "list", "tick", "phase", "restart", "fresh"]
 BASES = {"novac": (8, 8, 8), "findvac": (8, 8, 8), "sleep": (8,), "rouse": (8,), "prio": (8,), "store": (10, 8)}
 BASES |= {"list": (10, 8, 8), "phase": (10, 10)}
-TASKS, JOBS = ["02000", "02100", "02200"], ["04000", "04100", "04200", "04300"]
-
-
-def a_request(pick, of_plan=False):
-    job = f"{pick.choice(['novac', 'findvac'])} {pick.randint(1, 31):02o} {pick.choice(JOBS)} 00005"
-    listing = f"list {pick.randint(1, 40)} {pick.choice(TASKS)} 00005"
-    rouse = f"rouse {pick.choice(JOBS)}"
-    if of_plan:
-        return pick.choice([job, job, listing, listing, rouse, "nothing"])
-    others = ["end", f"sleep {pick.choice(JOBS)}", f"prio {pick.randint(1, 31):02o}", "change", "store 3 12345", "restart", "tick"]
-    return pick.choice([job, job, job, listing, listing, rouse, f"phase {pick.randint(1, 6)} {pick.randint(0, 2)}", *others])
-
-
-def a_beat(pick):
-    """A row of stolen time that comes again."""
-    begins, long = pick.randint(0, 150), pick.choice([1, 1, 2, 9])
-    every, until = long + pick.choice([0, 1, 3, 20]), max(0, begins + pick.choice([-1, 0, 1, 40, 400]))
-    return f"{begins} {begins + long} {pick.choice([1, 40, 100])} {every} {until}"
-
-
-def a_step(pick):
-    """What a job asks for before it leaves."""
-    job = f"{pick.choice(['novac', 'findvac'])} {pick.randint(1, 31):02o} {pick.choice(JOBS)} 00005"
-    listing = f"list {pick.randint(1, 40)} {pick.choice(TASKS)} 00005"
-    return pick.choice([job, listing, f"prio {pick.randint(1, 31):02o}", f"phase {pick.randint(1, 6)} {pick.randint(0, 2)}", "store 3 12345"])
-
-
-def make(seed, count):
-    for number in range(count):
-        pick = random.Random(f"{seed} {number}")
-        print(f"scenario {pick.choice([7, 8])} {pick.randint(1, 4)} {pick.choice([1, 2147483646, pick.randint(1, 2147483646)])}")
-        for at in pick.sample(TASKS, pick.randint(0, 3)):
-            print(f"task {at} 00005|" + "|".join(a_request(pick, True) for _ in range(pick.randint(1, 4))))
-        for group in pick.sample(range(1, 7), pick.randint(0, 3)):
-            job = f"novac {pick.randint(1, 31):02o} {pick.choice(JOBS)} 00005"
-            print(f"phase {group} {pick.randint(1, 2)}|{pick.choice(['', job])}|{pick.choice(['', 'list 7 02000 00005'])}")
-        edges = sorted(pick.sample(range(0, 400), 6))
-        rows = [f"{edges[2 * k]} {edges[2 * k + 1]} {pick.choice([0, 1, 33, 50, 99, 100])} 0 0" for k in range(pick.randint(0, 3))]
-        rows += [a_beat(pick) for _ in range(pick.randint(0, 2))]
-        for row in pick.sample(rows, len(rows)):
-            print(f"steal {row}")
-        for at in pick.sample(JOBS, pick.randint(0, 4)):
-            steps = [a_step(pick) for _ in range(pick.choice([0, 0, 1, 2, 7]))]
-            then = [*steps, pick.choice(["end", "end", f"sleep {pick.choice(JOBS)}"])]
-            least = pick.choice([1, 1, 2, 5, 17, 60])
-            print(f"job {at} {least} {least + pick.choice([0, 0, 1, 3, 40])}|" + "|".join(then))
-        for _ in range(pick.randint(0, 5)):
-            at, every = pick.choice([0, 1, pick.randint(0, 200)]), pick.choice([0, 0, 1, 7, 25])
-            after = pick.choice([0, 0, 1201, 1202, 1203])
-            print(f"event {at} {every} {pick.randint(at, 400)} {after}|" + "|".join(a_request(pick) for _ in range(pick.randint(1, 3))))
-        for _ in range(pick.randint(1, 4)):
-            print(f"run {pick.randint(0, 200)}")
-            if pick.randint(0, 1):
-                print(f"hand {a_request(pick)}")
-        print("run 1000")
 
 
 def numbers_of(line):
@@ -108,123 +45,33 @@ class Scenario:
             after = {} if words[3] == "0" else {"after": words[3]}
             self.time["event"].append({"at": at, "do": parts, **again, **after})
         else:
-            self.begin()
+            if self.machine is None:
+                self.machine, self.clock = Machine(sets=self.sets, plan=self.plan), Clock(self.time)
             if name == "run":
                 self.run(int(rest))
             else:
-                self.served(0, rest)
-
-    def begin(self):
-        if self.machine is None:
-            self.machine = Machine(sets=self.sets, plan=self.plan)
-            self.start()
-
-    def told(self, time, source, numbers, step):
-        print(time, source, *numbers, step.text)
-
-
-class ByClock(Scenario):
-    def start(self):
-        self.clock = Clock(self.time)
+                self.serve(rest)
 
     def run(self, centiseconds):
         for asked, step in self.machine.run(self.clock, centiseconds):
             found = [*asked.numbers, *[0] * (3 - len(asked.numbers))]
-            self.told(self.clock.time, 1 if asked.event is None else asked.event + 2, [KINDS.index(asked.name), *found], step)
+            print(self.clock.time, 1 if asked.event is None else asked.event + 2, KINDS.index(asked.name), *found, step.text)
 
-    def served(self, source, line):
+    def serve(self, line):
         step = self.machine.ask(line)
         self.clock.served(self.machine, step)
-        self.told(self.clock.time, source, numbers_of(line), step)
+        print(self.clock.time, 0, *numbers_of(line), step.text)
 
 
-class Plainly(Scenario):
-    """The plain rule: what is left to do is a list, which a centisecond makes anew."""
-
-    def start(self):
-        self.now, self.given, self.left, self.stolen = 0, {}, self.events(), {}
-        self.lot, self.needs, self.alarms = self.time["seed"], {}, {}
-        for row in reversed(self.time["steal"]):  # (the first row comes last, and counts)
-            for begins in range(row["from"], row["until"] + 1, row["every"]) if "every" in row else [row["from"]]:
-                self.stolen |= dict.fromkeys(range(begins, begins + row["to"] - row["from"]), row["percent"])
-
-    def events(self):
-        for number, event in enumerate(self.time["event"]):
-            if self.comes(event):
-                yield from ((number + 2, line) for line in event["do"])
-
-    def comes(self, event):
-        """Whether an event comes now: its first time or a later one, counted from the start or from an alarm."""
-        if "after" not in event:
-            first, last = event["at"], event.get("until", 0)
-        elif event["after"] in self.alarms:
-            alarm = self.alarms[event["after"]]
-            first, last = alarm + max(1, event["at"]), alarm + max(1, event.get("until", 0))
-        else:
-            return False
-        return self.now == first and ("every" not in event or first <= last) or (
-            "every" in event and first < self.now <= last and (self.now - first) % event["every"] == 0
-        )
-
-    def drawn(self, cost):
-        """What a job costs that begins, in hundredths: one of so many, by the next lot of a generator of Lehmer's."""
-        if isinstance(cost, int):
-            return 100 * cost
-        self.lot = 48271 * self.lot % (2**31 - 1)
-        costs = range(100 * cost["from"], 100 * cost["to"] + 1)
-        return costs[self.lot % len(costs)]
-
-    def running(self):
-        job = self.machine.scene().sets[0]
-        return None if job is None or job.asleep else job
-
-    def centisecond(self):
-        yield 1, "tick"
-        yield from self.events()
-        if self.machine.scene().next:
-            yield 1, "change"
-        for _ in range(100 - self.stolen.get(self.now, 0)):
-            job = self.running()
-            cost = job and next((it for it in self.time["job"] if int(it["at"], 8) == job.at), None)
-            if cost is None:
-                continue
-            if not self.given.get(job.number):
-                self.needs[job.number] = self.drawn(cost["cost"])
-            self.given[job.number] = self.given.get(job.number, 0) + 1
-            steps = self.given[job.number] - self.needs[job.number]
-            if steps >= 0:
-                if steps == len(cost["then"]) - 1:
-                    self.given[job.number] = 0
-                yield 1, cost["then"][steps]
-
-    def served(self, source, line):
-        step = self.machine.ask(line)
-        awake = {it.number for it in self.machine.scene().sets if it and not it.asleep}
-        self.given = {} if step.begins_era else {number: it for number, it in self.given.items() if number in awake}
-        if step.alarm:
-            self.alarms.setdefault(f"{step.alarm:o}", self.now)
-        self.told(self.now, source, numbers_of(line), step)
-
-    def run(self, centiseconds):
-        end = min(self.now + centiseconds, 100 * self.time["seconds"])
-        while True:
-            for source, line in self.left:
-                self.served(source, line)
-            if self.now >= end:
-                return
-            self.now += 1
-            self.left = self.centisecond()
-
-
-def written(kind):
-    found = None
+def write():
+    scenario = None
     for line in sys.stdin.read().splitlines():
         name, rest = line.split(" ", 1)
         if name == "scenario":
-            found = kind(*rest.split(" "))
+            scenario = Scenario(*rest.split(" "))
             print(line)
         else:
-            found.take(name, rest)
+            scenario.take(name, rest)
 
 
 def refuses():
@@ -331,9 +178,6 @@ def keeps():
     assert (asked.name, asked.event, clock.time, clock.given[0]) == ("restart", 1, 2, 0)
 
 
-if sys.argv[1] == "make":
-    make(sys.argv[2], int(sys.argv[3]))
-else:
-    refuses()
-    keeps()
-    written(ByClock if sys.argv[1] == "clock" else Plainly)
+refuses()
+keeps()
+write()

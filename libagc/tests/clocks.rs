@@ -1,4 +1,4 @@
-//! Reads the scenarios that clocks.py makes, lets time pass by a `Clock`, and writes what clocks.py writes of them.
+//! Reads the scenarios that inputs.py makes, lets time pass by a `Clock`, and writes what inputs.py writes of them.
 #[path = "../rust/agc.rs"]
 mod agc;
 use agc::*;
@@ -22,7 +22,7 @@ impl Scenario {
         Scenario { sets: found[0], plan: Some(Plan::new()), timetable, going: None }
     }
 
-    fn take(&mut self, name: &str, rest: &str, out: &mut dyn Write) -> Result<(), Lacking> {
+    fn take(&mut self, name: &str, rest: &str, out: &mut dyn Write) -> Result<(), AgcError> {
         let (first, parts) = rest.split_once('|').unwrap_or((rest, ""));
         let parts: Vec<&str> = parts.split('|').collect();
         let octal = |text: &str| u32::from_str_radix(text, 8).unwrap();
@@ -59,7 +59,7 @@ impl Scenario {
         Ok(())
     }
 
-    fn go(&mut self, name: &str, rest: &str, out: &mut dyn Write) -> Result<(), Lacking> {
+    fn go(&mut self, name: &str, rest: &str, out: &mut dyn Write) -> Result<(), AgcError> {
         if self.going.is_none() {
             let machine = Machine::new(self.sets, self.plan.take().unwrap())?;
             self.going = Some((machine, Clock::new(self.timetable.take().unwrap())?));
@@ -89,7 +89,7 @@ impl Scenario {
 }
 
 /// Lines are spelled as they are read.
-fn spells() -> Result<(), Lacking> {
+fn spells() -> Result<(), AgcError> {
     for line in [
         "novac 31 17777 77777", "findvac 05 04000 00007", "end", "sleep 00010", "rouse 37777", "prio 07", "change",
         "store 3 02345", "list 16250 02000 00005", "tick", "phase 2 127", "restart", "fresh",
@@ -102,7 +102,7 @@ fn spells() -> Result<(), Lacking> {
 }
 
 /// A job costs two centiseconds, and of each 40 percent are stolen: it has 60, 120, 180 and 200 hundredths.
-fn keeps() -> Result<(), Lacking> {
+fn keeps() -> Result<(), AgcError> {
     let timetable = Timetable::new(1).steal(0, 100, 40).job(0o4000, 2, "end")?;
     let (mut machine, mut clock) = (Machine::new(7, Plan::new())?, Clock::new(timetable)?);
     let step = machine.ask("novac 20 04000 00005")?;
@@ -128,12 +128,28 @@ fn keeps() -> Result<(), Lacking> {
     let lots = Timetable::new(1).job(0o4000, 3, "end")?.at_least(1);
     for (seed, code) in [(0, TIME_RANGE), (2_147_483_647, TIME_RANGE), (2_147_483_646, OK), (1, OK)] {
         let found = Clock::new(lots.clone().seed(seed));
-        assert_eq!(found.map_or_else(|lacks| lacks.code, |_| OK), code);
+        assert_eq!(found.map_or_else(|error| error.code as u32, |_| OK), code);
     }
     let (mut machine, mut clock) = (Machine::new(7, Plan::new())?, Clock::new(lots.seed(1))?);
     let step = machine.ask("novac 20 04000 00005")?;
     clock.served(&machine, &step);
     assert_eq!((machine.run(&mut clock, 1)?.len(), clock.given()[0]), (1, 300 - 131 + 100));
+    // Another timetable from here on: lots go on, unless it has another seed.
+    let other = Timetable::new(1).steal(0, 100, 50).event(3, 0, 0, &["phase 1 1"])?;
+    clock.change(other.clone().seed(1))?;
+    assert_eq!((clock.time(), clock.state().clock.lot), (1, 48271));
+    clock.change(other.seed(9))?;
+    assert_eq!((clock.time(), clock.state().clock.lot), (1, 9));
+    assert!(machine.run(&mut clock, 5)?.iter().any(|it| it.0.request.to_string() == "phase 1 1"));
+    // What is kept goes on as what was kept does, also where an alarm came from which an event counts.
+    let full = ["novac 20 04000 00005"; 8];
+    let timetable = Timetable::new(1).event(2, 0, 0, &full)?.event(4, 0, 0, &["phase 1 1"])?.after(0o1202);
+    let (mut machine, mut clock) = (Machine::new(7, Plan::new())?, Clock::new(timetable.clone())?);
+    machine.run(&mut clock, 3)?;
+    let mut own = Clock::of_state(&clock.state(), timetable)?;
+    assert_eq!((own.state(), own.state().alarms), (clock.state(), vec![(0o1202, 2)]));
+    let (wanted, found) = (machine.clone().run(&mut clock, 9)?, machine.run(&mut own, 9)?);
+    assert!(wanted == found && wanted.iter().any(|it| it.0.event == Some(1)));
     // A run tells its clock of the restart, after which nothing was given to a job that is gone.
     let timetable = Timetable::new(1).job(0o4000, 5, "end")?;
     let timetable = timetable.event(1, 0, 100, &["novac 20 04000 00005"])?.event(2, 0, 100, &["restart"])?;
@@ -144,7 +160,7 @@ fn keeps() -> Result<(), Lacking> {
 }
 
 /// A request is refused by the rule of `agc`, and a pulse asks for a tick, or for what the plan has done.
-fn asks() -> Result<(), Lacking> {
+fn asks() -> Result<(), AgcError> {
     let [tick, novac] = ["tick", "novac 20 02000 00005"].map(|it| AgcRequest::try_from(it).unwrap());
     let of = |served, logged| AgcBounds { served, allowance: 10, logged, limit: 5 };
     assert_eq!([of(9, 4), of(9, 5), of(10, 5), of(11, 0)].map(|it| agc_refusal(&tick, &it)), [OK, LOG_FULL, SPENT, SPENT]);
@@ -157,6 +173,11 @@ fn asks() -> Result<(), Lacking> {
     assert_eq!(agc_pulse(RADAR, &key, &[], &mut found), AgcNumber { code: OK, number: 0 });
     assert_eq!(agc_pulse(RADAR, &[], &[novac; 5], &mut found), AgcNumber { code: PLAN_RANGE, number: 0 });
     assert_eq!(agc_pulse(3, &key, &key, &mut found), AgcNumber { code: OUT_OF_RANGE, number: 0 });
+    let lines = |found: Vec<AgcRequest>| found.iter().map(AgcRequest::to_string).collect::<Vec<_>>();
+    assert_eq!(lines(pulse(Device::Key, &["nothing", "rouse 02100"], &[])?), ["rouse 02100"]);
+    assert_eq!(lines(pulse(Device::Timer, &[], &[])?), ["tick"]);
+    assert_eq!((refusal("tick", &of(9, 5))?, refusal("restart", &of(9, 5))?), (Code::LogFull, Code::Ok));
+    assert_eq!(refusal("tock", &of(9, 5)).unwrap_err().code, Code::NotSpelled);
     // An event whose last time is before its first never comes.
     let never = Timetable::new(1).event(5, 2, 4, &["restart"])?;
     let (mut machine, mut clock) = (Machine::new(7, Plan::new())?, Clock::new(never)?);
@@ -164,20 +185,20 @@ fn asks() -> Result<(), Lacking> {
     Ok(())
 }
 
-fn main() -> Result<(), Lacking> {
+fn main() -> Result<(), AgcError> {
     let twice = Timetable::new(1).job(0o4000, 1, "end")?.job(0o4000, 2, "end")?;
-    assert_eq!(Clock::new(twice).unwrap_err().code, COST_TWICE);
-    assert_eq!(Timetable::new(1).job(0o4000, 1, "tick").unwrap_err().code, NOT_SPELLED);
-    assert_eq!(Timetable::new(1).job_asks(0o4000, 1, &["change"], "end").unwrap_err().code, NOT_SPELLED);
+    assert_eq!(Clock::new(twice).unwrap_err().code, Code::CostTwice);
+    assert_eq!(Timetable::new(1).job(0o4000, 1, "tick").unwrap_err().code, Code::NotSpelled);
+    assert_eq!(Timetable::new(1).job_asks(0o4000, 1, &["change"], "end").unwrap_err().code, Code::NotSpelled);
     let eight = Timetable::new(1).job_asks(0o4000, 1, &["prio 07"; 8], "end")?;
-    assert_eq!(Clock::new(eight).unwrap_err().code, TIME_RANGE);
+    assert_eq!(Clock::new(eight).unwrap_err().code, Code::TimeRange);
     // 2^32 hundredths and four, and as many centiseconds, aren't cut to four.
     let long = Timetable::new(86400).job(0o4000, 42_949_673, "end")?;
-    assert_eq!(Clock::new(long).unwrap_err().code, TIME_RANGE);
-    assert_eq!(Clock::new(Timetable::new(86401)).unwrap_err().code, TIME_RANGE);
+    assert_eq!(Clock::new(long).unwrap_err().code, Code::TimeRange);
+    assert_eq!(Clock::new(Timetable::new(86401)).unwrap_err().code, Code::TimeRange);
     assert_eq!((Clock::new(Timetable::new(86400))?.lasts(), Clock::new(Timetable::new(60))?.lasts()), (8_640_000, 6000));
-    assert_eq!(scene_of(&[0; 132]).unwrap_err().code, UNLAWFUL);
-    assert_eq!(scene_of(&[0; 131]).unwrap_err().code, NOT_WORDS);
+    assert_eq!(scene_of(&[0; 132]).unwrap_err().code, Code::Unlawful);
+    assert_eq!(scene_of(&[0; 131]).unwrap_err().code, Code::NotWords);
     spells()?;
     keeps()?;
     asks()?;

@@ -394,6 +394,32 @@ static void replies(void) {
     check(agc_write_reply(&step, fired, NULL, 0).code == 4, "a reply of no kind", 7, 4);
 }
 
+static void rules(void) {
+    char text[AGC_LINE] = "";
+    AgcNumber told = agc_write_rule(AGC_RULE_CODE, text, sizeof text);
+    check(told.code == 0 && told.number == strlen(text) && strstr(text, "FAILREG") == text, "the last rule", 7, 0);
+    text[0] = 0;
+    check(agc_write_rule(AGC_RULE_WORD, text, 30).code == 14 && agc_write_rule(AGC_RULE_WORD, text, 31).code == 0, "no room", 7, 14);
+    text[0] = 0;
+    check(agc_write_rule(0, text, sizeof text).code == 4 && agc_write_rule(AGC_RULE_CODE + 1, text, sizeof text).code == 4 && text[0] == 0,
+          "no rule", 7, 4);
+}
+
+static void scenes(void) {
+    AgcScene scene = {0}, was;
+    BROKEN("agc_scene", agc_scene(w, s, &scene));
+    check(agc_scene(image, 7, &scene) == 0, "a scene", 7, 0);
+    for (uint32_t k = 0; k < 7; k++) {
+        AgcJob job = agc_job_at(image, 7, k);
+        check(scene.sets[k].number == job.number && scene.sets[k].area == job.area && scene.sets[k].at == job.at, "its jobs", 7, 0);
+    }
+    for (uint32_t k = 0; k < AGC_TASKS; k++) check(scene.tasks[k].left == agc_task_at(image, 7, k).left, "its tasks", 7, 0);
+    for (uint32_t k = 1; k <= AGC_AREAS; k++) check(scene.areas[k - 1] == agc_area_at(image, 7, k).number, "its areas", 7, 0);
+    for (uint32_t k = 1; k <= AGC_GROUPS; k++) check(scene.phases[k - 1] == agc_phase_at(image, 7, k).number, "its phases", 7, 0);
+    was = scene;
+    check(agc_scene(image, 9, &scene) == 1 && !memcmp(&was, &scene, sizeof was), "it stays", 9, 1);
+}
+
 static void reports(void) {
     AgcTotals most = {UINT64_MAX, UINT64_MAX, UINT64_MAX, UINT64_MAX, UINT64_MAX};
     char text[AGC_REPORT];
@@ -480,6 +506,8 @@ int main(void) {
     lines();
     numbers_of_replies();
     replies();
+    scenes();
+    rules();
     reports();
     ticks();
     words();

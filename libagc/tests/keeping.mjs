@@ -5,7 +5,7 @@
 import { pathToFileURL } from "node:url";
 
 const agc = await import(pathToFileURL(process.argv[2]).href);
-const { Clock, Code, Kind, Lacking, Machine, VERSION, placeName, pulseOf, readCore, refusalOf, replyText, sceneOf } = agc;
+const { Clock, Code, Kind, AgcError, Machine, VERSION, placeName, pulseOf, refusalOf, replyText, sceneOf } = agc;
 
 const SERVICER = {
   steal: 15,
@@ -31,13 +31,13 @@ function thrown(kind, call, told) {
 
 function timeGoesOn() {
   const [machine, clock] = [new Machine(), new Clock()];
-  thrown(Lacking, () => machine.run(clock, -1), "time can't go back, by -1 centiseconds");
+  thrown(AgcError, () => machine.run(clock, -1), "time can't go back, by -1 centiseconds");
   thrown(TypeError, () => machine.run(clock, 2.5));
   want(machine.run(clock, 0) === 0 && clock.time === 0 && machine.run(clock, 3) === 3, "a run");
   want(new Clock({ seconds: 86400 }).lasts === 8640000 && new Clock({ seconds: 0.29 }).lasts === 29, "a day");
-  thrown(Lacking, () => new Clock({ seconds: 86401 }), "a timetable lasts at most 86400 seconds, and this 86401");
-  thrown(Lacking, () => new Clock({ seconds: 0.125 }), "seconds has to be whole centiseconds, and is 0.125");
-  thrown(Lacking, () => new Clock({ seconds: Number.NaN }));
+  thrown(AgcError, () => new Clock({ seconds: 86401 }), "a timetable lasts at most 86400 seconds, and this 86401");
+  thrown(AgcError, () => new Clock({ seconds: 0.125 }), "seconds has to be whole centiseconds, and is 0.125");
+  thrown(AgcError, () => new Clock({ seconds: Number.NaN }));
 }
 
 /** An event whose last time is before its first, as `agc_watch` takes it. */
@@ -54,16 +54,6 @@ function anEventMayComeAtTheStartAlone() {
   const clock = new Clock({ event: [{ at: 0, every: 2, until: 0, do: "restart" }] });
   new Machine().run(clock, 9, (asked) => { count += Number(asked.text === "restart"); });
   want(count === 1, `an event that comes at the start alone comes ${count} times`);
-}
-
-/** As many as `skip` says. */
-function numbersBeforeAMemoryArePassedOver() {
-  const map = { sets: 7, mpac: 0, vac1use: "00124", newjob: "00470", time3: "00471", lst1: "00472",
-    lst2: "00502", phase1: "00524", failreg: "00540" };
-  const memory = Array.from({ length: 400 }, (_, k) => k);
-  const told = readCore(memory, map);
-  want(same(told, readCore([9, 9, 9, ...memory], { ...map, skip: 3 })), "a memory behind three numbers");
-  want(!same(told, readCore(memory.slice(3), map)), "a memory that lacks three numbers");
 }
 
 /** By the rule of `agc`: the allowance is looked at first, and a full log serves what starts over. */
@@ -84,9 +74,9 @@ function boundsRefuse() {
     want(found.every((it) => it === code), `${counts} of ${lines}: ${found}`);
   }
   const bounds = { served: 0, allowance: 1, logged: 0, limit: 1 };
-  thrown(Lacking, () => refusalOf("tock", bounds), '"tock" is no request');
-  thrown(Lacking, () => refusalOf("tick", { ...bounds, allowance: 2n ** 64n }), "allowance can't be 18446744073709551616");
-  thrown(Lacking, () => refusalOf("tick", { ...bounds, logged: -1 }), "logged can't be -1");
+  thrown(AgcError, () => refusalOf("tock", bounds), '"tock": its first word is unknown; did you mean "tick"?');
+  thrown(AgcError, () => refusalOf("tick", { ...bounds, allowance: 2n ** 64n }), "allowance can't be 18446744073709551616");
+  thrown(AgcError, () => refusalOf("tick", { ...bounds, logged: -1 }), "logged can't be -1");
   thrown(TypeError, () => refusalOf("tick", { served: 0 }), 'the bounds has to have "allowance"');
 }
 
@@ -101,20 +91,20 @@ function pulsesAsk() {
   want(same(pulseOf("radar", { radar: "list 16250 37777 77777" }), ["list 16250 37777 77777"]), "a radar");
   const four = new Array(4).fill("findvac 01 00001 00000");
   want(same(pulseOf("key", { key: four }), four), "four actions");
-  thrown(Lacking, () => pulseOf("key", { key: [...four, "nothing"] }), "a number of the plan is out of its range");
-  thrown(Lacking, () => pulseOf("bell"), "a number of the call is out of its range");
-  thrown(Lacking, () => pulseOf("key", { key: "tick" }), '"tick" is no action');
+  thrown(AgcError, () => pulseOf("key", { key: [...four, "nothing"] }), "a number of the plan is out of its range");
+  thrown(AgcError, () => pulseOf("bell"), "a number of the call is out of its range");
+  thrown(AgcError, () => pulseOf("key", { key: "tick" }), 'key, action 1: "tick": an action is nothing, or begins with novac, findvac, rouse or list');
   want(machine.ask("tick").fired.length === 1 && machine.scene().sets[0].at === 0o4000, "the machine goes on");
 }
 
 function keysAreKnown() {
   const job = { at: "04000", cost: 1 };
-  const keys = "title, sets, limit, allowance, script, attends, key, radar, power, worker, device, task, phase, seconds, seed, steal, job, event";
+  const keys = "sets, limit, allowance, attends, key, radar, power, script, task, phase, worker, device, seconds, title, seed, steal, job, event";
   thrown(TypeError, () => new Clock({ stael: 15 }), `a timetable has no key "stael", only ${keys}`);
   thrown(TypeError, () => new Clock().change({ stael: 15 }));
-  thrown(TypeError, () => new Clock({ job: [job, { ...job, costs: 1 }] }), 'job 2 has no key "costs", only at, cost, then, deadline, name');
+  thrown(TypeError, () => new Clock({ job: [job, { ...job, costs: 1 }] }), 'job 2 has no key "costs", only at, cost, deadline, then, name');
   thrown(TypeError, () => new Clock({ job: [{ at: "04000" }] }), 'job 1 has to have "cost"');
-  thrown(Lacking, () => new Clock({ job: [{ at: "04000", cost: 1, then: " end" }] }), '" end" is no end or sleep');
+  thrown(AgcError, () => new Clock({ job: [{ at: "04000", cost: 1, then: " end" }] }), 'job 1, then: " end": a job leaves by end or sleep');
   thrown(TypeError, () => new Clock({ job: [{ ...job, cost: 0.5 }] }), "a number has to be an integer, and this is 0.5");
   thrown(TypeError, () => new Clock({ job }), 'job has to be an array, and this is {"at":"04000","cost":1}');
   thrown(TypeError, () => new Clock({ event: [{ do: "tick" }] }), 'event 1 has to have "at"');
@@ -133,14 +123,14 @@ function faultsNameTheirRow() {
   const [row, entry] = [{ at: "02000", bank: "00005", action: "nothing" }, { group: 1, phase: 1 }];
   const others = Array.from({ length: 39 }, (_, k) => ({ ...row, at: 0o2001 + k }));
   const range = "a number of the plan is out of its range";
-  thrown(Lacking, () => new Machine({ plan: { task: [{ ...row, at: "00000" }, row] } }), `task 1: ${range}`);
-  thrown(Lacking, () => new Machine({ plan: { task: [row, { ...row, at: "00000" }, row] } }), `task 2: ${range}`);
-  thrown(Lacking, () => new Machine({ plan: { task: [row, ...others, row, row] } }), "task 41: a task has two rows of the plan");
-  thrown(Lacking, () => new Machine({ plan: { task: others, phase: [entry, { ...entry, phase: 128 }] } }), `phase 2: ${range}`);
+  thrown(AgcError, () => new Machine({ plan: { task: [{ ...row, at: "00000" }, row] } }), `task 1: ${range}`);
+  thrown(AgcError, () => new Machine({ plan: { task: [row, { ...row, at: "00000" }, row] } }), `task 2: ${range}`);
+  thrown(AgcError, () => new Machine({ plan: { task: [row, ...others, row, row] } }), "task 41: a task has two rows of the plan");
+  thrown(AgcError, () => new Machine({ plan: { task: others, phase: [entry, { ...entry, phase: 128 }] } }), `phase 2: ${range}`);
   const costs = [1, 2, 3, 2, 1].map((at) => ({ at, cost: 1 }));
-  thrown(Lacking, () => new Clock({ job: costs }), "job 4: one address has two costs");
+  thrown(AgcError, () => new Clock({ job: costs }), "job 4: one address has two costs");
   const steal = [{ from: 9, to: 12, percent: 1 }, { from: 0, to: 10, percent: 1 }];
-  thrown(Lacking, () => new Clock({ steal }), "steal 2: two rows of stolen time hold at one time");
+  thrown(AgcError, () => new Clock({ steal }), "steal 2: two rows of stolen time hold at one time");
 }
 
 function foreignWordsHaveNoScene() {
@@ -148,9 +138,9 @@ function foreignWordsHaveNoScene() {
   const words = Array.from(machine.words);
   want(same(sceneOf(words), machine.scene()), "a scene");
   for (const [place, bits] of [[11, 0o1001], [89, 0o14], [129, 5], [90, 1], [3, 32768]]) {
-    thrown(Lacking, () => sceneOf(words.map((it, k) => (k === place ? bits : it))));
+    thrown(AgcError, () => sceneOf(words.map((it, k) => (k === place ? bits : it))));
   }
-  thrown(Lacking, () => sceneOf(words.slice(1)), "there have to be 132 words, and these are 131");
+  thrown(AgcError, () => sceneOf(words.slice(1)), "there have to be 132 words, and these are 131");
 }
 
 /** What is kept goes on as what was kept does, and leaves it alone. */
@@ -174,13 +164,13 @@ function areKept() {
   }
   want(same(Clock.of(clock.state).state, clock.state), "a clock's state");
   const { state } = machine;
-  thrown(Lacking, () => Machine.of({ ...state, words: state.words.map(() => 0) }));
-  thrown(Lacking, () => Machine.of({ ...state, moment: state.moment.map(() => 0) }));
-  thrown(Lacking, () => Machine.of({ ...state, totals: { ...state.totals, served: -1 } }));
+  thrown(AgcError, () => Machine.of({ ...state, words: state.words.map(() => 0) }));
+  thrown(AgcError, () => Machine.of({ ...state, moment: state.moment.map(() => 0) }));
+  thrown(AgcError, () => Machine.of({ ...state, totals: { ...state.totals, served: -1 } }));
   const many = Machine.of({ ...state, totals: { ...state.totals, served: 2 ** 40 + 5 } });
   want(many.report().includes("\nSERVED 1099511627781\n"), "a count above 32 bits");
   thrown(TypeError, () => Machine.of({ sets: 8 }));
-  thrown(Lacking, () => Clock.of({ ...clock.state, at: [2 ** 32, ...new Array(12).fill(0)] }));
+  thrown(AgcError, () => Clock.of({ ...clock.state, at: [2 ** 32, ...new Array(12).fill(0)] }));
 }
 
 /** A clock that is kept after each request goes on as one that isn't: after a tick it still looks at NEWJOB. */
@@ -218,9 +208,9 @@ function anAlarmMovesWhatCountsFromIt() {
   }
   const { alarms, ...old } = clock.state;
   want(same(alarms, { 1202: 5 }) && same(Clock.of(old).state.alarms, {}), "a state without alarms");
-  thrown(Lacking, () => Clock.of({ ...old, alarms: { 1202: 8640001 } }));
+  thrown(AgcError, () => Clock.of({ ...old, alarms: { 1202: 8640001 } }));
   thrown(TypeError, () => Clock.of({ ...old, alarms: { 1204: 1 } }));
-  thrown(Lacking, () => new Clock({ event: [{ at: 1, after: "1204", do: "tick" }] }));
+  thrown(AgcError, () => new Clock({ event: [{ at: 1, after: "1204", do: "tick" }] }));
 }
 
 /** A lot is 48271 times the one before, modulo 2147483647; a seed that is named begins anew. */
@@ -254,10 +244,37 @@ function wordsAreNamed() {
   want(same(seen.map((it) => [it.running, it.next]), [[1, 0], [1, 2], [2, 0]]), "whom NEWJOB names");
 }
 
+/** What is out of range is named with its number and its range, and a line is explained as `agc_watch check` explains it. */
+function messagesCanBeShown() {
+  const [machine, row] = [new Machine(), { at: 1, bank: 5, action: ["nothing", "tick"] }];
+  for (const [call, told] of [
+    [() => machine.ask("novac", 0o40, 0o2000, 5), "priority is 40 (octal), and may be 1 to 37"],
+    [() => machine.ask("novac", 1, 0, 5), "address is 0 (octal), and may be 1 to 37777"],
+    [() => machine.ask("findvac", 1, 1, 32768), "word is 100000 (octal), and may be 0 to 77777"],
+    [() => machine.ask("list", 16251, 1, 1), "delay is 16251, and may be 1 to 16250"],
+    [() => machine.ask("phase", 7, 1), "group is 7, and may be 1 to 6"],
+    [() => machine.ask("novac", 2 ** 32 + 1, 1, 1), "priority is 40000000001 (octal), and may be 1 to 37"],
+    [() => machine.ask(""), '"": a line may not be empty'],
+    [() => machine.ask("tick\r"), '"tick\\r": a line ends with LF alone, not with CR LF'],
+    [() => machine.ask("novac 20"), '"novac 20": it has the form "novac P A W", with single spaces'],
+    [() => machine.ask("novac 20 2000 00005"), '"novac 20 2000 00005": an address is five octal digits, 00001 to 37777'],
+    [() => machine.ask("prio", 7, 8), '"prio": no request of this name has 2 numbers'],
+    [() => new Machine({ words: new Array(131).fill(0) }), "there have to be 132 words, and these are 131"],
+    [() => new Machine({ plan: { task: [row] } }),
+      'task 1 of the plan, action 2: "tick": an action is nothing, or begins with novac, findvac, rouse or list'],
+  ]) thrown(AgcError, call, told);
+  thrown(TypeError, () => new Clock().next(null), "what a clock is for has to be a Machine, and this is null");
+  thrown(TypeError, () => new Clock().served(machine, "tick"), 'what came of a request has to be a Step, and this is "tick"');
+  thrown(TypeError, () => machine.run(undefined, 5), "what a machine runs by has to be a Clock, and this is undefined");
+  thrown(TypeError, () => machine.ask("novac", "20", 1, 1), 'a number has to be an integer, and this is "20"');
+  machine.ask("findvac 20 02000 00005");
+  want(`${machine}` === "<Machine: job 1 runs; jobs: 1, tasks: 0, alarms: 0>" && agc.Lacking === AgcError, `${machine}`);
+}
+
 timeGoesOn();
+messagesCanBeShown();
 anEventMayNeverCome();
 anEventMayComeAtTheStartAlone();
-numbersBeforeAMemoryArePassedOver();
 boundsRefuse();
 pulsesAsk();
 keysAreKnown();

@@ -1,14 +1,19 @@
 """What machines and clocks of agc.py refuse with a sentence, how they are kept, and how threads share one. Prints what
 doesn't hold."""
 
+import ast
 import copy
 import json
+import os
 import pickle
+import subprocess
 import sys
 import threading
 
 import agc
-from agc import Clock, Code, Lacking, Machine
+from agc import AgcError, Clock, Code, Machine
+
+HERE = os.path.dirname(os.path.abspath(__file__))
 
 SERVICER = {
     "steal": 15,
@@ -30,7 +35,7 @@ def raised(kind, call):
 def time_goes_on():
     """A run of less than nothing is refused at once, and nothing passes; of nothing it is no run."""
     machine, clock = Machine(), Clock()
-    assert raised(Lacking, lambda: machine.run(clock, -1)) == "time can't go back, by -1 centiseconds"
+    assert raised(AgcError, lambda: machine.run(clock, -1)) == "time can't go back, by -1 centiseconds"
     raised(TypeError, lambda: machine.run(clock, 2.5))
     assert [*machine.run(clock, 0)] == [] and clock.time == 0 and machine.totals.served == 0
     assert len([*machine.run(clock, 3)]) == 3 and clock.time == 3
@@ -40,10 +45,10 @@ def a_day_is_the_longest():
     """Events come up to a day, so that a timetable that lasts longer would lose them."""
     assert Clock({"seconds": 86400}).lasts == 8640000 and Clock({"seconds": 0.29}).lasts == 29
     told = "a timetable lasts at most 86400 seconds, and this 86401"
-    assert raised(Lacking, lambda: Clock({"seconds": 86401})) == told
-    assert raised(Lacking, lambda: Clock({"seconds": 0.125})) == "seconds has to be whole centiseconds, and is 0.125"
+    assert raised(AgcError, lambda: Clock({"seconds": 86401})) == told
+    assert raised(AgcError, lambda: Clock({"seconds": 0.125})) == "seconds has to be whole centiseconds, and is 0.125"
     late = {"event": [{"at": 0, "do": "tick"}, {"at": 8640001, "do": "tick"}]}
-    assert raised(Lacking, lambda: Clock(late)) == "event 2: a number of the timetable is out of its range"
+    assert raised(AgcError, lambda: Clock(late)) == "event 2: a number of the timetable is out of its range"
 
 
 def an_event_may_never_come():
@@ -58,14 +63,6 @@ def an_event_may_come_at_the_start_alone():
     assert [it.text for it, _ in machine.run(clock, 9)].count("restart") == 1
 
 
-def numbers_before_a_memory_are_passed_over():
-    """As many as `skip` says."""
-    where = {"sets": 7, "mpac": 0, "vac1use": "00124", "newjob": "00470", "time3": "00471", "lst1": "00472"}
-    where.update({"lst2": "00502", "phase1": "00524", "failreg": "00540"})
-    told = agc.read_core(range(400), where)
-    assert told == agc.read_core([9, 9, 9, *range(400)], {**where, "skip": 3}) != agc.read_core(range(3, 400), where)
-
-
 def bounds_refuse():
     """By the rule of `agc`: the allowance is looked at first, and a full log serves what starts over."""
     for counts, lines in [
@@ -77,9 +74,10 @@ def bounds_refuse():
     for counts, code in [((9, 10, 5, 5), Code.LOG_FULL), ((10, 10, 5, 5), Code.SPENT), ((0, 0, 0, 1), Code.SPENT), ((11, 10, 0, 5), Code.SPENT)]:
         assert agc.refusal("tick", agc.Bounds(*counts)) is code, counts
     assert agc.refusal("fresh", agc.Bounds(10, 10, 0, 5)) is Code.SPENT
-    assert raised(Lacking, lambda: agc.refusal("tock", agc.Bounds(0, 1, 0, 1))) == "'tock' is no request"
-    assert raised(Lacking, lambda: agc.refusal("tick", agc.Bounds(0, 2**64, 0, 1))) == "allowance can't be 18446744073709551616"
-    assert raised(Lacking, lambda: agc.refusal("tick", agc.Bounds(0, 1, -1, 1))) == "logged can't be -1"
+    told = raised(AgcError, lambda: agc.refusal("tock", agc.Bounds(0, 1, 0, 1)))
+    assert told == "'tock': its first word is unknown; did you mean \"tick\"?", told
+    assert raised(AgcError, lambda: agc.refusal("tick", agc.Bounds(0, 2**64, 0, 1))) == "allowance can't be 18446744073709551616"
+    assert raised(AgcError, lambda: agc.refusal("tick", agc.Bounds(0, 1, -1, 1))) == "logged can't be -1"
     raised(TypeError, lambda: agc.refusal("tick", (0, 1, 0, 1)))
 
 
@@ -90,9 +88,10 @@ def pulses_ask():
     assert agc.pulse("key", keys) == ["novac 20 02000 00005", "rouse 02100"] and agc.pulse("radar", keys) == []
     assert agc.pulse("radar", radar="list 16250 37777 77777") == ["list 16250 37777 77777"]
     assert agc.pulse("key", ["findvac 01 00001 00000"] * 4) == ["findvac 01 00001 00000"] * 4
-    assert raised(Lacking, lambda: agc.pulse("key", ["nothing"] * 5)) == "a number of the plan is out of its range"
-    assert raised(Lacking, lambda: agc.pulse("bell")) == "a number of the call is out of its range"
-    assert raised(Lacking, lambda: agc.pulse("key", "tick")) == "'tick' is no action"
+    assert raised(AgcError, lambda: agc.pulse("key", ["nothing"] * 5)) == "a number of the plan is out of its range"
+    assert raised(AgcError, lambda: agc.pulse("bell")) == "a number of the call is out of its range"
+    told = raised(AgcError, lambda: agc.pulse("key", "tick"))
+    assert told == "key, action 1: 'tick': an action is nothing, or begins with novac, findvac, rouse or list", told
 
 
 def keys_are_known():
@@ -113,7 +112,7 @@ def keys_are_known():
         (lambda: Machine(plan={"phase": [{"group": 1, "phase": 1}, {"group": 1}]}), "phase 2 of the plan has to have 'phase'"),
         (lambda: Machine(plan={"phase": [5]}), "phase 1 of the plan has to be a dict, and 5 is of type int"),
     ]:
-        found = raised(TypeError, call)
+        found = raised(TypeError if "of type" in told else ValueError, call)
         assert found == told, found
     # A whole scenario stands for its plan and for its timetable.
     scenario = {"title": "a landing", "sets": 7, "seconds": 60, **PLAN, **SERVICER}
@@ -132,7 +131,7 @@ def a_fault_names_its_row():
         (lambda: Clock({"job": [{"at": k, "cost": 1} for k in (1, 2, 3, 2, 1)]}), "job 4: one address has two costs"),
         (lambda: Clock({"steal": [{"from": 9, "to": 12, "percent": 1}, {"from": 0, "to": 10, "percent": 1}]}), "steal 2: two rows of stolen time hold at one time"),
     ]:
-        found = raised(Lacking, call)
+        found = raised(AgcError, call)
         assert found == told, found
 
 
@@ -140,9 +139,9 @@ def foreign_words_have_no_scene():
     words = [*Machine().words]
     assert agc.scene_of(words).running == 0
     for place, bits in [(11, 0o1001), (89, 0o14), (129, 5), (90, 1), (3, 32768)]:
-        assert "scene" not in raised(Lacking, lambda: agc.scene_of([*words[:place], bits, *words[place + 1:]]))
-    raised(Lacking, lambda: agc.scene_of(words[:131]))
-    raised(Lacking, lambda: agc.scene_of([]))
+        assert "scene" not in raised(AgcError, lambda: agc.scene_of([*words[:place], bits, *words[place + 1:]]))
+    raised(AgcError, lambda: agc.scene_of(words[:131]))
+    raised(AgcError, lambda: agc.scene_of([]))
 
 
 def halfway():
@@ -175,11 +174,11 @@ def machines_and_clocks_are_kept():
         assert [(str(asked), str(step)) for asked, step in other.run(its, 700)] == wanted, name
         assert (machine.words, machine.moment, machine.totals, clock.time, clock.given) == was, name
     for change in ({"words": [0] * 144}, {"moment": [0] * 144}, {"totals": [-1, [0, 0, 0], 0]}):
-        raised(Lacking, lambda: Machine.of_state({**machine.state, **change}))
+        raised(AgcError, lambda: Machine.of_state({**machine.state, **change}))
     many = Machine.of_state({**machine.state, "totals": [2**40 + 5, [0, 0, 0], 0]})
     assert "\nSERVED 1099511627781\n" in many.report()
-    raised(TypeError, lambda: Machine.of_state({"sets": 8}))
-    raised(Lacking, lambda: Clock.of_state({**clock.state, "at": [2**32] + [0] * 12}))
+    raised(ValueError, lambda: Machine.of_state({"sets": 8}))
+    raised(AgcError, lambda: Clock.of_state({**clock.state, "at": [2**32] + [0] * 12}))
     assert type(pickle.loads(pickle.dumps(machine.totals))) is agc.Totals
 
 
@@ -219,21 +218,34 @@ def an_alarm_moves_what_counts_from_it():
         assert found == [(15, "phase 1 1"), (20, "phase 1 2")], found
     old = {name: it for name, it in clock.state.items() if name != "alarms"}
     assert Clock.of_state(old).state["alarms"] == {}
-    raised(Lacking, lambda: Clock.of_state({**old, "alarms": {"1202": 8640001}}))
-    raised(TypeError, lambda: Clock.of_state({**old, "alarms": {"1204": 1}}))
-    raised(Lacking, lambda: Clock({"event": [{"at": 1, "after": "1204", "do": "tick"}]}))
+    raised(AgcError, lambda: Clock.of_state({**old, "alarms": {"1202": 8640001}}))
+    raised(ValueError, lambda: Clock.of_state({**old, "alarms": {"1204": 1}}))
+    raised(AgcError, lambda: Clock({"event": [{"at": 1, "after": "1204", "do": "tick"}]}))
+
+
+def a_clock_is_changed():
+    """What isn't named stays, lots go on unless a seed is named, and what counts from an alarm still does."""
+    job, event = [{"at": "04000", "cost": {"from": 1, "to": 9}}], [{"at": 0, "do": "novac 20 04000 00005"}]
+    machine, clock = Machine(), Clock({"seed": 5, "job": job, "event": event})
+    assert [str(it) for it, _ in machine.run(clock, 1)] == ["novac 20 04000 00005", "tick"]
+    lot = 48271 * 5
+    clock.change({"steal": 10})
+    assert (clock.state["at"][-1], clock.time, clock.state["timetable"]["job"]) == (lot, 1, job)
+    clock.change({"seed": 9, "event": [{"at": 3, "do": "phase 1 1"}]})
+    assert clock.state["at"][-1] == 9 and "phase 1 1" in [str(it) for it, _ in machine.run(clock, 5)]
+    was = clock.state
+    raised(ValueError, lambda: clock.change({"stael": 15}))
+    raised(AgcError, lambda: clock.change({"steal": 101}))
+    assert clock.state == was
 
 
 def threads_take_turns():
-    """Six threads ask one machine, two of them by many at once: each request is served, and counted once."""
+    """Six threads ask one machine: each request is served, and counted once."""
     machine, steps = Machine(), [[] for _ in range(6)]
 
     def work(k):
         for _ in range(500):
-            if k < 2:
-                steps[k] += machine.ask_all(["phase 1 1", "tick"])
-            else:
-                steps[k] += [machine.ask("findvac 20 02000 00005"), machine.ask("tick")]
+            steps[k] += [machine.ask("phase 1 1" if k < 2 else "findvac 20 02000 00005"), machine.ask("tick")]
 
     switch = sys.getswitchinterval()
     sys.setswitchinterval(1e-6)
@@ -247,13 +259,73 @@ def threads_take_turns():
     assert (machine.totals.served, machine.totals.alarms[0]) == told == (6000, 2000 // 6), machine.totals
 
 
-def many_at_once():
-    """The same replies as one by one; at the first that lacks something those before it have been served."""
-    lines = ["novac 20 02000 00005", "findvac 30 02100 00005", "change", "list 1 02000 00005", "tick"] * 30
-    one, all_ = Machine(plan=PLAN), Machine(plan=PLAN)
-    assert all_.ask_all(lines) == [one.ask(it) for it in lines] and all_.words == one.words and all_.totals == one.totals
-    raised(Lacking, lambda: all_.ask_all(["tick", "tock", "tick"]))
-    assert all_.totals.served == len(lines) + 1
+def messages_can_be_shown():
+    """What is out of range is named with its number and its range, and a line is explained as `agc_watch check` explains it."""
+    machine, row = Machine(), {"at": 1, "bank": 5, "action": ["nothing", "tick"]}
+    for call, told in [
+        (lambda: machine.ask("novac", 0o40, 0o2000, 5), "priority is 40 (octal), and may be 1 to 37"),
+        (lambda: machine.ask("novac", 1, 0, 5), "address is 0 (octal), and may be 1 to 37777"),
+        (lambda: machine.ask("findvac", 1, 1, 32768), "word is 100000 (octal), and may be 0 to 77777"),
+        (lambda: machine.ask("list", 16251, 1, 1), "delay is 16251, and may be 1 to 16250"),
+        (lambda: machine.ask("phase", 7, 1), "group is 7, and may be 1 to 6"),
+        (lambda: machine.ask("novac", 2**32 + 1, 1, 1), "priority is 40000000001 (octal), and may be 1 to 37"),
+        (lambda: machine.ask(""), "'': a line may not be empty"),
+        (lambda: machine.ask("tick\r"), "'tick\\r': a line ends with LF alone, not with CR LF"),
+        (lambda: machine.ask("novac 20"), "'novac 20': it has the form \"novac P A W\", with single spaces"),
+        (lambda: machine.ask("novac 20 2000 00005"), "'novac 20 2000 00005': an address is five octal digits, 00001 to 37777"),
+        (lambda: machine.ask("prio", 7, 8), "'prio': no request of this name has 2 numbers"),
+        (lambda: Machine(words=[0] * 131), "there have to be 132 words, and these are 131"),
+        (lambda: Machine(plan={"task": [row]}),
+         "task 1 of the plan, action 2: 'tick': an action is nothing, or begins with novac, findvac, rouse or list"),
+    ]:
+        found = raised(AgcError, call)
+        assert found == told, found
+    told = "what a clock is for has to be a Machine, and None is of type NoneType"
+    assert raised(TypeError, lambda: Clock().next(None)) == told == raised(TypeError, lambda: Clock().served(None, None))
+    raised(TypeError, lambda: machine.run(None, 5))
+    raised(TypeError, lambda: machine.ask("novac", 1.0, 1, 1))
+    machine.ask("findvac 20 02000 00005")
+    assert repr(machine) == "<Machine: job 1 runs; jobs: 1, tasks: 0, alarms: 0>", repr(machine)
+    other = pickle.loads(pickle.dumps(AgcError(Code.NOT_SPELLED, "'tock'")))
+    assert (other.code, str(other)) == (Code.NOT_SPELLED, "'tock'") and agc.Lacking is AgcError
+
+
+def a_wrong_library_is_told():
+    for named, part in [
+        ("/nowhere", "OSError: AGC_LIBRARY names /nowhere, which can't be loaded: "),
+        (HERE, f"OSError: AGC_LIBRARY names {HERE}, which can't be loaded: "),
+        ("libc.so.6", "OSError: AGC_LIBRARY names libc.so.6, which can't be loaded: "),
+    ]:
+        environment = {**os.environ, "AGC_LIBRARY": named}
+        ran = subprocess.run([sys.executable, "-c", "import agc"], env=environment, capture_output=True, text=True)
+        assert ran.returncode == 1 and part in ran.stderr, f"{named}: {ran.stderr}"
+
+
+def module():
+    with open(agc.__file__, encoding="utf-8") as file:
+        return ast.parse(file.read())
+
+
+def python_3_8_will_do():
+    """It has no `list[int]` but in hints, which aren't evaluated."""
+    for it in module().body:
+        parts = ast.walk(it.value) if isinstance(it, (ast.Assign, ast.AnnAssign)) else []
+        of = {one.value.id for one in parts if isinstance(one, ast.Subscript) and isinstance(one.value, ast.Name)}
+        assert not of & {"dict", "list", "tuple", "type"}, f"line {it.lineno}"
+
+
+def each_function_is_hinted():
+    for it in (one for one in ast.walk(module()) if isinstance(one, ast.FunctionDef)):
+        arguments = [*it.args.args, *filter(None, [it.args.vararg])]
+        without = [one.arg for one in arguments if one.annotation is None and one.arg not in ("self", "cls")]
+        assert it.returns is not None and not without, f"{it.name} lacks hints"
+
+
+def a_star_brings_the_modules_own_names():
+    names = {}
+    exec("from agc import *", names)
+    assert {"Machine", "Clock", "Kind", "AgcError", "library"} <= set(names)
+    assert not {"os", "ctypes", "operator", "Structure", "Any", "Iterable"} & set(names)
 
 
 def versions():
@@ -268,7 +340,6 @@ def main():
         a_day_is_the_longest,
         an_event_may_never_come,
         an_event_may_come_at_the_start_alone,
-        numbers_before_a_memory_are_passed_over,
         bounds_refuse,
         pulses_ask,
         keys_are_known,
@@ -277,8 +348,13 @@ def main():
         machines_and_clocks_are_kept,
         clocks_are_kept_after_each_request,
         an_alarm_moves_what_counts_from_it,
+        a_clock_is_changed,
         threads_take_turns,
-        many_at_once,
+        messages_can_be_shown,
+        a_wrong_library_is_told,
+        python_3_8_will_do,
+        each_function_is_hinted,
+        a_star_brings_the_modules_own_names,
         versions,
     ]:
         try:

@@ -1,5 +1,5 @@
 /* Reads script lines, as `agc script` does, asks the library for each, and writes its reply lines and its report.
-   Other lines are those that eras.py writes: the plan, and where the next bench begins.
+   Other lines are those that inputs.py writes: the plan, and where the next bench begins.
    script SETS checked|trusted */
 #include "agc.h"
 

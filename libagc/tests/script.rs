@@ -1,5 +1,5 @@
 //! Reads script lines, as `agc script` does, asks the library for each, and writes its reply lines and its report.
-//! Other lines are those that eras.py writes: the plan, and where the next bench begins.
+//! Other lines are those that inputs.py writes: the plan, and where the next bench begins.
 //!
 //!     script SETS
 
@@ -16,7 +16,7 @@ struct Run {
     served: u32,
     alarms: [u32; 3],
     restarts: u32,
-    entries: Vec<PhaseEntry>,
+    entries: Vec<AgcPhaseEntry>,
     rows: Vec<(u32, u32, String)>,
     out: String,
 }
@@ -121,14 +121,9 @@ impl Run {
     fn entry(&mut self, texts: &[&str]) {
         let ten = |k: usize| number(texts[k], 10);
         let eight = |k: usize| number(texts[k], 8);
-        let (priority, at, bank) = (eight(3), eight(4), eight(5));
-        let job = match ten(2) {
-            0 => None,
-            1 => Some(JobStart::Novac { priority, at, bank }),
-            _ => Some(JobStart::Findvac { priority, at, bank }),
-        };
-        let task = Some(Listing { delay: ten(6), at: eight(7), bank: eight(8) }).filter(|it| it.delay != 0);
-        self.entries.push(PhaseEntry { group: ten(0), phase: ten(1), job, task });
+        let (job, priority, job_at, job_bank) = (ten(2), eight(3), eight(4), eight(5));
+        let (delay, task_at, task_bank) = (ten(6), eight(7), eight(8));
+        self.entries.push(AgcPhaseEntry { group: ten(0), phase: ten(1), job, priority, job_at, job_bank, delay, task_at, task_bank });
     }
 
     /// Power comes back, and these twelve phase words are found.
@@ -207,17 +202,15 @@ fn refuses() {
     assert_eq!(agc_value(0o77776), AgcValue { code: OK, value: -1 });
     assert_eq!(agc_add(0o37777, 1), AgcSum { code: OK, bits: 0, overflow: true });
     assert_eq!(agc_recover(&[0; 12]).code, UNLAWFUL);
-    assert_eq!(agc_code_text(NOT_A_WORD), "a word of the call is above 077777");
-    assert_eq!(agc_reply_text(STORED), "a work word was set");
-    let job = |bank| PhaseEntry { group: 6, phase: 1, job: Some(JobStart::Novac { priority: 1, at: 1, bank }), task: None };
+    assert_eq!(Code::of(NOT_A_WORD).map(Code::text), Some("a word of the call is above 077777"));
+    assert_eq!((Kind::of(STORED).map(Kind::text), Kind::of(0)), (Some("a work word was set"), None));
+    let of = |group, job, job_bank| AgcPhaseEntry { group, phase: 1, job, priority: 1, job_at: 1, job_bank, ..AgcPhaseEntry::default() };
     want(agc_set_phase(&mut words, 8, 6, 1));
     let was = words;
     assert_eq!(agc_begin(&mut words, 9, 0, &[]), NO_SUCH_SETS);
     assert_eq!(agc_begin(&mut words, 8, 1201, &[]), OUT_OF_RANGE);
-    assert_eq!(agc_begin(&mut words, 8, 0o1201, &[job(32768)]), PLAN_RANGE);
-    let six: Vec<PhaseEntry> = (1..=6)
-        .map(|group| PhaseEntry { group, phase: 1, job: Some(JobStart::Findvac { priority: 1, at: 1, bank: 1 }), task: None })
-        .collect();
+    assert_eq!(agc_begin(&mut words, 8, 0o1201, &[of(6, NOVAC, 32768)]), PLAN_RANGE);
+    let six: Vec<AgcPhaseEntry> = (1..=6).map(|group| of(group, FINDVAC, 1)).collect();
     assert_eq!(words, was);
     (1..=5).for_each(|group| want(agc_set_phase(&mut words, 8, group, 1)));
     assert_eq!(agc_begin(&mut words, 8, 0, &six), TOO_MANY_AREAS);

@@ -1,6 +1,6 @@
 /* Reads script lines, as `agc script` does, asks agc_step for each, and writes its reply lines and its report. Behind the
    words, the tasks that fired and each text stands a mark, which no call may change.
-   Other lines are those that eras.py writes: the plan, where the next bench begins, and what of the tables is to be told.
+   Other lines are those that inputs.py writes: the plan, where the next bench begins, and what of the tables is to be told.
    steps SETS checked|trusted */
 #include "agc.h"
 

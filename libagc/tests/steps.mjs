@@ -1,6 +1,6 @@
 // Reads script lines, as `agc script` does, asks a `Machine` for each, and writes its reply lines and its report. Each
 // request is asked as its line, and by its name and numbers of a copy, which has to reply and leave the same. Other
-// lines are those that eras.py writes: the plan, where the next bench begins, and what of the tables is to be told.
+// lines are those that inputs.py writes: the plan, where the next bench begins, and what of the tables is to be told.
 //
 //     node steps.mjs AGC_JS SETS           by the module agc.js at this path
 //     node steps.mjs AGC_JS SETS MODULE    by machine.js beside it, and another module of WebAssembly

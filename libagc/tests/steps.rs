@@ -1,6 +1,6 @@
 //! Reads script lines, as `agc script` does, asks a `Machine` for each, and writes its reply lines and its report. Each
 //! request is asked as its line, and by its numbers of a copy, which has to reply and leave the same.
-//! Other lines are those that eras.py writes: the plan, where the next bench begins, and what of the tables is to be told.
+//! Other lines are those that inputs.py writes: the plan, where the next bench begins, and what of the tables is to be told.
 //!
 //!     steps SETS
 
@@ -28,21 +28,20 @@ fn spelled(step: &Step) -> String {
     let n = step.number();
     let fired: String = step.fired().iter().map(|it| format!(" {:05o}/{:05o}", it.at, it.bank)).collect();
     match step.kind() {
-        ESTABLISHED => format!("job {n}"),
-        LEFT => format!("left {n}"),
-        IDLE => "left idle".to_string(),
-        ROUSED => format!("roused {n}"),
-        NO_SLEEPER => "no sleeper".to_string(),
-        NO_JOB => "no job".to_string(),
-        RUNS => format!("runs {n}"),
-        STORED => "stored".to_string(),
-        LISTED => "listed".to_string(),
-        ALARMED => format!("alarm {n:o}"),
-        PHASED => "phased".to_string(),
-        TICKED => format!("tick{fired}"),
-        TICK_ALARMED => format!("tick{fired} alarm {n:o}"),
-        RESTARTED => "restarted".to_string(),
-        _ => panic!("kind {}", step.kind()),
+        Kind::Established => format!("job {n}"),
+        Kind::Left => format!("left {n}"),
+        Kind::Idle => "left idle".to_string(),
+        Kind::Roused => format!("roused {n}"),
+        Kind::NoSleeper => "no sleeper".to_string(),
+        Kind::NoJob => "no job".to_string(),
+        Kind::Runs => format!("runs {n}"),
+        Kind::Stored => "stored".to_string(),
+        Kind::Listed => "listed".to_string(),
+        Kind::Alarmed => format!("alarm {n:o}"),
+        Kind::Phased => "phased".to_string(),
+        Kind::Ticked => format!("tick{fired}"),
+        Kind::TickAlarmed => format!("tick{fired} alarm {n:o}"),
+        Kind::Restarted => "restarted".to_string(),
     }
 }
 
@@ -66,7 +65,7 @@ impl Run {
         Run { sets, tasks: vec![], phases: vec![], power: None, made: None }
     }
 
-    fn plan(&self) -> Result<Plan, Lacking> {
+    fn plan(&self) -> Result<Plan, AgcError> {
         let mut plan = Plan::new();
         for (at, bank, lines) in &self.tasks {
             let lines: Vec<&str> = lines.iter().map(String::as_str).collect();
@@ -98,7 +97,7 @@ impl Run {
         assert_eq!(other.ask(request).unwrap(), step);
         assert_eq!((other.words(), other.moment()), (machine.words(), machine.moment()));
         assert_eq!((other.totals(), step.to_string()), (machine.totals(), spelled(&step)));
-        assert_eq!(step.action() > 0, step.kind() == TICK_ALARMED);
+        assert_eq!(step.action() > 0, step.kind() == Kind::TickAlarmed);
         step.to_string()
     }
 
@@ -136,12 +135,12 @@ impl Run {
     }
 }
 
-fn lacks<T>(made: Result<T, Lacking>, code: u32) {
-    let lacking = made.err().unwrap();
-    assert!(lacking.code == code && lacking.to_string().len() > 8, "{lacking:?}, and not {code}");
+fn lacks<T>(made: Result<T, AgcError>, code: u32) {
+    let error = made.err().unwrap();
+    assert!(error.code as u32 == code && error.to_string().len() > 8, "{error:?}, and not {code}");
 }
 
-/// Each code, as a `Lacking`; and then nothing has changed.
+/// Each code, as an error; and then nothing has changed.
 fn refuses() {
     let area = "findvac 01 00001 00000";
     let mut machine = Machine::new(8, Plan::new().phase(4, 5, "findvac 25 06000 00007", "").unwrap()).unwrap();
@@ -184,18 +183,38 @@ fn refuses() {
     assert_eq!(again.words(), words);
     assert_eq!(again.ask("change").unwrap().to_string(), "runs 1");
     // A line that spells nothing is told. What is too long for its room isn't written.
-    let told = machine.ask("novac 20").unwrap_err();
-    assert_eq!((told.line.as_deref(), told.to_string().starts_with("\"novac 20\": ")), (Some("novac 20"), true));
+    messages(&mut machine);
     let step = AgcStep { code: OK, reply: ESTABLISHED, number: 3, fired: 0, action: 0 };
     let (fired, mut whole, mut text) = ([AgcFired::default(); FIRED], [0; WORDS], [7; LINE]);
     assert_eq!(agc_write_reply(&step, &fired, &mut text[..5]), AgcNumber { code: NO_ROOM, number: 6 });
     whole.copy_from_slice(&words);
     assert_eq!(agc_write_report(&whole, 8, &totals, &mut text[..5]).code, NO_ROOM);
-    let task = Some(Listing { delay: 0, at: 1, bank: 1 });
-    assert_eq!(agc_begin(&mut whole, 8, 0, &[PhaseEntry { group: 1, phase: 1, job: None, task }]), PLAN_RANGE);
+    assert_eq!(agc_begin(&mut whole, 8, 0, &[AgcPhaseEntry { group: 1, ..AgcPhaseEntry::default() }]), PLAN_RANGE);
     assert_eq!(text, [7; LINE]);
     assert_eq!(agc_write_reply(&step, &fired, &mut text[..6]), AgcNumber { code: OK, number: 6 });
     assert_eq!(text[..7], *b"job 3\n\x07");
+}
+
+/// What is out of range is named with its number and its range, and a line is explained as `agc_watch check` explains it.
+fn messages(machine: &mut Machine) {
+    let mut said = |line: &str| machine.ask(line).unwrap_err().to_string();
+    assert_eq!(said(""), r#""": a line may not be empty"#);
+    assert_eq!(said("tick\r"), r#""tick\r": a line ends with LF alone, not with CR LF"#);
+    assert_eq!(said("tock"), r#""tock": its first word is unknown; did you mean "tick"?"#);
+    assert_eq!(said("novac 20"), r#""novac 20": it has the form "novac P A W", with single spaces"#);
+    assert_eq!(said("novac 20 2000 00005"), r#""novac 20 2000 00005": an address is five octal digits, 00001 to 37777"#);
+    let mut said = |kind, first, second, third| machine.ask(AgcRequest { kind, first, second, third }).unwrap_err().to_string();
+    assert_eq!(said(NOVAC, 0o40, 0o2000, 5), "priority is 40 (octal), and may be 1 to 37");
+    assert_eq!(said(FINDVAC, 1, 1, 32768), "word is 100000 (octal), and may be 0 to 77777");
+    assert_eq!(said(LIST, 16251, 1, 1), "delay is 16251, and may be 1 to 16250");
+    let of = |made: Result<Plan, AgcError>| made.and_then(|it| Machine::new(7, it)).unwrap_err().to_string();
+    let action = r#"task 1, action 2: "tick": an action is nothing, or begins with novac, findvac, rouse or list"#;
+    assert_eq!(of(Plan::new().task(1, 1, &["nothing", "tick"])), action);
+    let rows = (1..4).fold(Plan::new(), |plan, it| plan.task(it, 1, &["nothing"]).unwrap());
+    assert_eq!(of(rows.clone().task(0, 1, &["nothing"])), "task 4: a number of the plan is out of its range");
+    assert_eq!(of(rows.phase(1, 1, "", "").unwrap().phase(1, 1, "", "")), "phase 2: a group's phase has two entries of the plan");
+    let words = Machine::from_words(&[0; 131], Plan::new()).unwrap_err().to_string();
+    assert_eq!(words, "there have to be 132 words, and these are 131");
 }
 
 /// What a machine keeps to itself, and what is told before anything is asked.
@@ -213,6 +232,8 @@ fn keeps() {
     let made = Machine::from_words(one.words(), Plan::new()).unwrap();
     assert_eq!((made.words(), made.moment(), made.totals()), (one.words(), one.words(), AgcTotals::default()));
     assert_eq!(one.ask("change").unwrap().to_string(), "runs 2");
+    let kept = Machine::of_state(&one.state(), Plan::new()).unwrap();
+    assert_eq!((kept.words(), kept.moment(), kept.totals()), (one.words(), one.moment(), one.totals()));
     let phase_words = [0o77772, 5, 0o77777, 0, 0o77777, 0, 0o77772, 5, 0o77777, 0, 0o77777, 0];
     let plan = Plan::new().phase(4, 5, "findvac 25 06000 00007", "").unwrap();
     let up = Machine::power_up(7, plan, &phase_words).unwrap();

@@ -1,6 +1,6 @@
 # Completes agc_watch's words in bash.
 _agc_watch() {
-    local commands='trace picture page check explore bench peaks jobs compare sweep core play'
+    local commands='trace page check explore bench peaks jobs compare sweep play'
     COMPREPLY=()
     case $COMP_CWORD:${COMP_WORDS[1]} in
         1:*) mapfile -t COMPREPLY < <(compgen -W "$commands help --help --version" -- "$2") ;;
@@ -11,8 +11,7 @@ _agc_watch() {
         2:sweep) mapfile -t COMPREPLY < <(compgen -W 'steal sets seconds --and --find --csv --progress --help' -- "$2") ;;
         *:sweep) mapfile -t COMPREPLY < <(compgen -W '--and --find --csv --progress --help' -- "$2") ;;
         2:peaks | 2:jobs) mapfile -t COMPREPLY < <(compgen -W '--csv --help' -- "$2") ;;
-        2:bench | 2:compare | *:core | 2:play) mapfile -t COMPREPLY < <(compgen -W '--help' -- "$2") ;;
-        *:picture) mapfile -t COMPREPLY < <(compgen -W '--time --width --from --to --progress --help' -- "$2") ;;
+        2:bench | 2:compare | 2:play) mapfile -t COMPREPLY < <(compgen -W '--help' -- "$2") ;;
         *:page) mapfile -t COMPREPLY < <(compgen -W '--workbench --help' -- "$2") ;;
     esac
 }

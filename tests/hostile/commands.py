@@ -21,27 +21,14 @@ EIGHT_JOBS = """allowance = 10
 script = [%s "tick", "tick", "tick", "tick"]
 """ % ('"novac 20 02000 00005", ' * 8)
 
-# A kit that proves nothing: it builds a program that ends with status 7, and tries by saying with which words.
-KIT = """#!/bin/sh
-name=${PWD##*/}
-case "$1 $2" in
-    'all check') printf '== %s\\n== summary\\n' "$name" ;;
-    'run --') mkdir -p out && cp ../../program "out/$name" && echo "rt: running out/$name; " ;;
-    try\ *)
-        shift 6
-        echo "tried $*"
-        case $* in
-            *hang*) echo run=no-answer >&2; exit 6 ;;
-            *) printf 'own line\\nchecked: ended status=0\\nrun=ended status=0 \\n' >&2 ;;
-        esac ;;
-esac
-"""
+# What stands in for a program, and for one that was compiled unproved.
 PROGRAM = "#!/bin/sh\necho ran $*\necho own line >&2\nexit 7\n"
+UNPROVED = "#!/bin/sh\necho unproved $*\n"
 PROGRAMS = ("agc", "agc_watch")
 AGC, WATCH = (f"{TOP}/crates/{it}/out/{it}" for it in PROGRAMS)
 WORKBENCH = f"{TOP}/share/workbench.html"
 VERSION = open(f"{TOP}/VERSION", encoding="ascii").read().strip()
-NEEDED = "sh dirname find sort xargs cksum cp mkdir mktemp head cat tr awk sed rm grep".split()
+NEEDED = "sh dirname env find sort xargs cksum cp mkdir mktemp head cat tr awk sed rm grep python3".split()
 
 # Cases of agc_watch that need no program: their words, and what comes on standard output.
 HELPS = ("help", "help-short", "help-word", "help-of-trace", "check-help", "version", "version-short")
@@ -140,8 +127,8 @@ def rows_of_orders(hostile, room):
     status, text, _ = run_many(hostile, room, "--mode", "explore")
     head = "bench,status,a1201,a1202,a1203,jobs,areas,tasks,fault\n"
     wanted = (f"{head}a-calm,0,never,never,never,2,0,0,\n"
-              'b-key,1,,,,,,,"agc_watch: line 1: unknown key ""no"" agc_watch: key"\n'
-              "c-race,4,6,never,never,5,5,0,\nd-script,4,never,8,never,,,,\n")
+              'b-key,1,,,,,,,"-:1: unknown key ""no"""\n'
+              "c-race,10,6,never,never,5,5,0,\nd-script,10,never,8,never,,,,\n")
     hostile.expect(f"many, of orders: status {status}, {text}", (status, text) == (1, wanted))
     write(f"{room}/told/obeying", OBEYING, 0o755)
     told = "alarm 1201: by 1,000 requests (9 states):\nalarm 1202: undecided, 11 states seen\nalarm 1203: never"
@@ -224,25 +211,28 @@ def wrong_words(hostile, room):
 
 
 class Clone:
-    """A clone of two crates, with ./agc, ./agc_watch, tools/prove and a kit."""
+    """A clone of two crates, with ./agc and ./agc_watch, and no kit."""
 
     def __init__(self, hostile, room):
         self.hostile, self.room = hostile, room
 
     def fill(self):
-        for name in (*PROGRAMS, "tools/launch", "tools/prove", "tools/repository.py", "tools/sources"):
+        for name in (*PROGRAMS, "tools/launch", "tools/sources"):
             os.makedirs(os.path.dirname(f"{self.room}/{name}"), exist_ok=True)
             shutil.copy(f"{TOP}/{name}", f"{self.room}/{name}")
         write(f"{self.room}/crates.txt", "".join(f"{it}:\n" for it in PROGRAMS))
         for it in PROGRAMS:
             write(f"{self.room}/crates/{it}/src/main.rt", "fn main() {}\n")
-            write(f"{self.room}/crates/{it}/args", "script\n")
-            write(f"{self.room}/crates/{it}/stdin", "")
-        write(f"{self.room}/program", PROGRAM, 0o755)
-        write(f"{self.room}/kit/rt", KIT, 0o755)
         os.mkdir(f"{self.room}/tools-of-system")
         for name in NEEDED:
             os.symlink(shutil.which(name), f"{self.room}/tools-of-system/{name}")
+
+    def build(self, path, text):
+        """A program, with what tools/prove and tools/compile keep beside it."""
+        path = f"{self.room}/crates/{path}"
+        write(path, text, 0o755)
+        sources = ended([f"{self.room}/tools/sources"])[1]
+        write(f"{path}.sums", ended(["sh", "-c", f"cksum < {path}"])[1] + sources)
 
     def copy(self, name):
         """A copy whose files are all new, the sources newest."""
@@ -258,67 +248,50 @@ class Clone:
         when = time.time() + seconds
         os.utime(f"{self.room}/crates/agc/src/main.rt", (when, when))
 
-    def run(self, command, *words, kit=True):
+    def run(self, *command):
         self.hostile.runs += 1
-        path = f"{self.room}/tools-of-system" + (f":{self.room}/kit" if kit else "")
-        return ended([*command, *words], env={"PATH": path})
+        return ended([*command], env={"PATH": f"{self.room}/tools-of-system"})
 
-    def expect(self, what, wanted, *words, kit=True, name="agc"):
-        """What ./agc writes, its status, and the end of the first line of its own on standard error, if any."""
-        status, text, said = self.run([f"{self.room}/{name}"], *words, kit=kit)
-        first = next((it for it in said.splitlines() if it.startswith(f"{name}: ")), "")
+    def expect(self, what, wanted, *words, name="agc"):
+        """What ./agc writes, its status, and the end of the last line of its own on standard error, if any."""
+        status, text, said = self.run(f"{self.room}/{name}", *words)
+        first = ([it for it in said.splitlines() if it.startswith(f"{name}: ")] or [""])[-1]
         is_right = (status, text) == wanted[:2] and first.endswith(wanted[2]) and bool(first) == bool(wanted[2])
         self.hostile.expect(f"./{name}, {what}: status {status}, {text}, {said}", is_right)
 
 
 def starter(hostile):
-    """./agc runs what was built from the sources that stand there; without the kit, what is there."""
-    ran, tried = (7, "ran script\n", ""), (0, "tried script\n", "which answers at once")
+    """Without the kit ./agc runs what was built from the sources that stand there, proved or else unproved; else what is there,
+    and says that it is of others."""
+    ran, old = (7, "ran script\n", ""), (7, "ran script\n", "is not on the path")
     with tempfile.TemporaryDirectory() as room:
         clone = Clone(hostile, f"{room}/clone")
         clone.fill()
-        status, _, said = clone.run([f"{room}/clone/agc"], "script", kit=False)
-        hostile.expect(f"./agc with nothing: status {status}, {said}", status == 70)
-        clone.expect("before it is built", tried, "script")
-        unproved(clone)
+        clone.expect("with nothing", (70, "", "is not on the path"), "script")
         helps_at_once(clone)
-        status, text, _ = clone.run([sys.executable, f"{room}/clone/tools/prove"])
-        hostile.expect(f"tools/prove with a kit that proves nothing: status {status}, {text}", status == 0)
+        clone.build("agc_watch/out/unproved/agc_watch", UNPROVED)
+        for words in (["trace", "file"], ["--help"]):
+            clone.expect(f"unproved, {words}", (0, f"unproved {' '.join(words)}\n", "makes the proved program"), *words, name="agc_watch")
+        clone.build("agc/out/agc", PROGRAM)
         clone.expect("when it is built", ran, "script")
         copy = clone.copy(f"{room}/copy")
         copy.expect("copied", ran, "script")
-        copy.expect("copied, without the kit", ran, "script", kit=False)
         linked = Clone(hostile, f"{room}/linked")
         os.mkdir(linked.room)
         for name in os.listdir(copy.room):
             os.symlink(f"{copy.room}/{name}", f"{linked.room}/{name}")
         linked.expect("called in a folder of links", ran, "script")
         write(f"{room}/copy/crates/agc/src/main.rt", "fn main() { }\n")
-        copy.expect("changed", tried, "script")
+        copy.expect("changed", old, "script")
+        copy.expect("changed, unproved", (70, "", "is not on the path"), "trace", name="agc_watch")
         copy.date(-9999)
-        copy.expect("changed, and dated back", tried, "script")
-        copy.expect("changed, without the kit", (*ran[:2], "is not on the path"), "script", kit=False)
+        copy.expect("changed, and dated back", old, "script")
         write(f"{room}/copy/crates/agc/out/agc", f"{PROGRAM}#\n", 0o755)
         copy.expect("built by others", ran, "script")
         copy.date(60)
-        copy.expect("built by others, and older", tried, "script")
+        copy.expect("built by others, and older", old, "script")
         for words in ([], ["--help"], ["help"], ["script", "serial"]):
             clone.expect(f"asked for {words}", (7, f"ran {' '.join(words)}".strip() + "\n", ""), *words)
-
-
-def unproved(clone):
-    """What is tried gets all words, of a file its whole path; where it has no answer, that is told."""
-    write(f"{clone.room}/bench.toml", "")
-    path = f"{clone.room}/bench.toml"
-    for words, wanted in ((["trace", "--from", "3", path], f"trace --from 3 {path}"), (["trace", "none.toml"], "trace none.toml"),
-                          (["check", "two words"], "check two words"), ([], "")):
-        clone.expect(f"with {words}", (0, f"tried {wanted}\n", "which answers at once"), *words, name="agc_watch")
-    status, text, said = clone.run(["sh", "-c", f"cd {clone.room} && exec ./agc_watch check bench.toml"])
-    is_right = (status, text) == (0, f"tried check {path}\n") and said.endswith("\nown line\n")
-    clone.hostile.expect(f"./agc_watch, of a file beside it: status {status}, {text}, {said}", is_right)
-    status, text, said = clone.run([f"{clone.room}/agc_watch"], "hang")
-    is_right = (status, text) == (70, "") and "tools/prove agc_watch makes the proved program" in said.splitlines()[-1]
-    clone.hostile.expect(f"./agc_watch, without an answer: status {status}, {text}, {said}", is_right)
 
 
 def progress(hostile):
@@ -459,7 +432,7 @@ def helps_at_once(clone):
     for text in cases.values():
         words = text.partition("=== stdout\n")[0].splitlines()[1:]
         wanted = (0, text.partition("=== stdout\n")[2], "")
-        found = clone.run([f"{clone.room}/agc_watch"], *words, kit=False)
+        found = clone.run(f"{clone.room}/agc_watch", *words)
         clone.hostile.expect(f"./agc_watch {words}, unbuilt: {found}", found == wanted)
     shutil.rmtree(f"{clone.room}/tests")
 

@@ -3,6 +3,8 @@
     tests/run cases                 all
     tests/run cases NAME ..         those named; TOPIC.cases stands for all of that file
     tests/run cases --input NAME    prints what a case's program reads on standard input
+    tests/run cases --unproved      by programs that tools/compile compiles unproved: all but those that
+                                    limit memory, which a build with checks exceeds, and long ones
 
 The cases of a topic are in one file, tests/cases/TOPIC.cases. A case begins with a line
 '=== case NAME'. Its sections begin with a line '=== SECTION', which no output has, and end at the
@@ -10,6 +12,7 @@ next. Each may be missing: it is empty then, and the status is 0. A case named w
 agc_watch, any other of agc.
 
     === args            the words of the command line, one a line
+    === long            it serves more than some thousand requests, which takes seconds unproved
     === memory KIB      how much the program may address
     === stdin           standard input
     === stdout          what has to come on standard output, and
@@ -18,8 +21,9 @@ agc_watch, any other of agc.
 
 What cannot be written as it is stands behind '=== SECTION escaped': \\xNN is a byte, \\\\ a backslash,
 and a last \\ says that the text has no line end there. '=== SECTION by sh' has commands that write a
-long text. '=== stdin from PATH' names what is read, '=== stdout to PATH' what is written and not
-compared. A run that takes more than twenty minutes hangs, and fails.
+long text. '=== stdin from PATH' names what is read, '=== stdout from PATH' a file that has what comes,
+'=== stdout to PATH' what is written and not compared. Each document of examples/ is read by a case
+whose output is the file .out of its name. A run that takes more than twenty minutes hangs, and fails.
 """
 import concurrent.futures
 import os
@@ -35,10 +39,13 @@ FOLDER = f"{repository.TOP}/tests/cases"
 HEADING = re.compile(r"=== (\w+)(?: (.+))?")
 NAME = re.compile(r"[a-z0-9]+(?:-[a-z0-9]+)*")
 # How the text of each section may be given.
-FORMS = {"args": "|escaped", "stdin": "|escaped|by sh|from .+", "stdout": "|escaped|by sh|to .+",
+FORMS = {"args": "|escaped", "long": "", "stdin": "|escaped|by sh|from .+", "stdout": "|escaped|by sh|from .+|to .+",
          "stderr": "|escaped|by sh", "memory": r"\d+", "status": r"\d+"}
 ESCAPE = re.compile(rb"\\(?:x([0-9a-f]{2})|(\\)|(.?))", re.S)
 SECONDS = 1200
+PROGRAMS = ("agc", "agc_watch")
+# Where programs are, below their crates: those that are proved, and those that tools/compile keeps.
+PROVED, UNPROVED = "out", "out/unproved"
 
 
 class Unread(Exception):
@@ -62,7 +69,18 @@ class Section:
             if ran.returncode:
                 raise Unread(f"its commands end with status {ran.returncode}")
             text = ran.stdout
+        elif self.file("from"):
+            try:
+                with open(self.file("from"), "rb") as file:
+                    text = file.read()
+            except OSError as why:
+                raise Unread(str(why)) from why
         return text
+
+    def file(self, word):
+        """Returns which file it names behind this word, if it names one."""
+        before, _, name = self.how.partition(" ")
+        return os.path.join(FOLDER, name) if before == word else ""
 
     def words(self):
         """Returns its lines as the words of a command line, in each of which all that is escaped is put back."""
@@ -87,6 +105,9 @@ def byte_of(found):
 
 class Case:
     """A case, from its lines in a file, the first of which has this number."""
+
+    # Where its program is.
+    folder = PROVED
 
     def __init__(self, name, path, first, lines):
         self.name, self.path = name, path
@@ -131,6 +152,10 @@ class Case:
     def how(self, part):
         return self.parts[part].how if part in self.parts else ""
 
+    def file(self, part, word):
+        """Returns which file a section names behind this word, if it names one."""
+        return self.parts[part].file(word) if part in self.parts else ""
+
     def text(self, part):
         """Returns the bytes of a section, none where it is missing."""
         try:
@@ -140,7 +165,7 @@ class Case:
 
     def words(self):
         """Returns the command that is run."""
-        program = program_of(self.program())
+        program = program_of(self.program(), self.folder)
         words = [program, *(self.parts["args"].words() if "args" in self.parts else [])]
         if "memory" in self.parts:
             words = ["sh", "-c", 'ulimit -v "$0" && exec "$@"', self.how("memory"), *words]
@@ -150,7 +175,7 @@ class Case:
         """Runs it, and returns a line for each part that differs."""
         try:
             with tempfile.TemporaryFile() as given:
-                given.write(self.text("stdin") if not self.how("stdin").startswith("from ") else b"")
+                given.write(self.text("stdin") if not self.file("stdin", "from") else b"")
                 given.seek(0)
                 ended = self.ended(given)
             return [it for part in ended for it in self.differs(part, ended[part])]
@@ -163,10 +188,9 @@ class Case:
 
     def ended(self, given):
         """Returns of each part that is compared what came of the run."""
-        source = self.how("stdin").removeprefix("from ") if self.how("stdin").startswith("from ") else ""
-        target = self.how("stdout").removeprefix("to ") if self.how("stdout").startswith("to ") else ""
-        files = [os.open(os.path.join(FOLDER, source), os.O_RDONLY)] if source else []
-        files += [os.open(os.path.join(FOLDER, target), os.O_WRONLY)] if target else []
+        source, target = self.file("stdin", "from"), self.file("stdout", "to")
+        files = [os.open(source, os.O_RDONLY)] if source else []
+        files += [os.open(target, os.O_WRONLY)] if target else []
         try:
             ran = subprocess.run(
                 self.words(), stdin=files[0] if source else given, stdout=files[-1] if target else subprocess.PIPE,
@@ -188,7 +212,7 @@ class Case:
         lines = [it.split(b"\n") for it in (found, wanted)]
         at = next((at for at, (one, other) in enumerate(zip(*lines)) if one != other), min(map(len, lines)))
         said, should = (shown(it[at]) if at < len(it) else "nothing" for it in lines)
-        is_by_line = part in self.parts and self.how(part) != "by sh"
+        is_by_line = part in self.parts and self.how(part) in ("", "escaped")
         place = f"{self.path}:{self.parts[part].line + 1 + at}" if is_by_line else self.path
         return [f"{place}: {part} has {said} in line {at + 1}, not {should}"]
 
@@ -197,8 +221,15 @@ def shown(line):
     return repr(line[:100].decode("utf-8", "backslashreplace"))
 
 
-def program_of(name):
-    return f"{repository.TOP}/crates/{name}/out/{name}"
+def program_of(name, folder=PROVED):
+    return f"{repository.TOP}/crates/{name}/{folder}/{name}"
+
+
+def are_built(folder=PROVED):
+    """Whether both programs are in this folder, built from today's sources."""
+    paths = [program_of(it, folder) for it in PROGRAMS]
+    return all(os.access(it, os.X_OK) and not subprocess.run([f"{repository.TOP}/tools/sources", it], check=False).returncode
+               for it in paths)
 
 
 def written():
@@ -258,11 +289,24 @@ def named(words, all_written):
 def add_words(parser):
     parser.add_argument("names", nargs="*", metavar="NAME")
     parser.add_argument("--input", metavar="NAME", help="prints what a case's program reads")
+    parser.add_argument("--unproved", action="store_true", help="runs short cases by programs compiled unproved")
+
+
+def examples_without(found):
+    """Yields what is wrong with the examples: each document is read by a case that writes its .out, and no other file is left."""
+    folder = f"{repository.TOP}/examples"
+    pairs = {tuple(map(os.path.realpath, (it.file("stdin", "from"), it.file("stdout", "from")))) for it in found if it.file("stdout", "from")}
+    for it in sorted(os.listdir(folder)):
+        name, ending = os.path.splitext(f"{folder}/{it}")
+        if ending == ".toml" and (f"{name}.toml", f"{name}.out") not in pairs:
+            yield f"examples/{it}: no case reads it and writes the file .out of its name"
+        elif ending in (".out", ".svg") and not os.path.isfile(f"{name}.toml"):
+            yield f"examples/{it}: there is no document of its name"
 
 
 def check():
     found, wrong = all_read()
-    return counting.checked("cases", len(found) + len(wrong), wrong)
+    return counting.checked("cases", len(found) + len(wrong), [*wrong, *examples_without(found)])
 
 
 def run(given):
@@ -274,8 +318,13 @@ def run(given):
     if given.input:
         sys.stdout.buffer.write(found[-1].text("stdin"))
         return 0
+    if given.unproved:
+        if subprocess.run([f"{repository.TOP}/tools/compile", *PROGRAMS], check=False).returncode:
+            counting.refuse("cases", "the programs couldn't be compiled and kept: see above")
+        Case.folder = UNPROVED
+        found = [it for it in found if not it.parts.keys() & {"memory", "long"}]
     for name in sorted({it.program() for it in found}):
-        if not os.access(program_of(name), os.X_OK):
+        if not os.access(program_of(name, Case.folder), os.X_OK):
             counting.refuse("cases", f"there is no program crates/{name}/out/{name}: tools/prove {name} builds it")
     failed = 0
     with concurrent.futures.ThreadPoolExecutor(len(os.sched_getaffinity(0))) as pool:

@@ -1,16 +1,14 @@
 """Runs the built programs where memory, reads and writes fail, and agc on benches with faults in them.
 
     tests/run hostile           all of it
-    tests/run hostile PART ..   the parts named: growths, reads, writes, ends, texts, benches, scenarios, many,
-                                starter, progress, play and workbench of commands.py, orders of orders.py, and release of
-                                releases.py
+    tests/run hostile PART ..   the parts named: growths, reads, writes, ends, texts, benches, scenarios, orders,
+                                and many, starter, progress, play and workbench of commands.py
 
 `failing.c` is put under the program: each growth of memory, each read of standard input and each write
 of standard output is refused in turn, until a run has none refused; reads and writes then move one byte
 at a time. What has to come of it is said beside each part. A run that ends otherwise has failed.
 """
 import os
-import random
 import re
 import resource
 import subprocess
@@ -18,18 +16,20 @@ import tempfile
 
 import counting
 from commands import many, play, progress, starter, workbench
-from orders import orders
-from releases import release
+from plain import make, orders as plain_orders
 from repository import TOP, is_scenario
 
 FAILING = f"{TOP}/tests/hostile/failing.c"
 PROGRAMS = {name: f"{TOP}/crates/{name}/out/{name}" for name in ("agc", "agc_watch")}
 
 # By these words agc_watch is run, by all others agc.
-WATCHED = {"trace", "picture", "page", "check", "explore", "bench", "peaks", "sweep", "--help", "--version"}
+WATCHED = {"trace", "page", "check", "explore", "bench", "peaks", "sweep", "--help", "--version"}
 
 # A run that takes longer hangs.
 SECONDS = 1200
+
+# So many benches are tried in every order.
+BENCHES = 300
 
 NO_MEMORY = (3, b"agc: no memory\n")
 NO_THREAD = (3, b"agc: no thread\n")
@@ -38,7 +38,7 @@ OUTPUT = (4, b"agc: output\n")
 DONE = (0, b"")
 
 # What `read_bench` may say of a text that is no bench.
-FAULTS = {"not toml", "key", "line", "task twice", "phase twice", "too many areas"}
+FAULTS = {"not text", "not toml", "key", "line", "task twice", "phase twice", "too many areas"}
 
 SCRIPT = b"phase 2 3\n" + b"list 5 02000 00005\n" * 10 + b"tick\nfindvac 10 02000 00005\nchange\n"
 
@@ -85,7 +85,7 @@ do = "rouse 04100"
 
 # What scenarios are run by; a word may have others behind it. A page is as long for each document, and a bench's is
 # written in parts already.
-SCENARIO_WORDS = ("trace --brief", "picture --time", "check", "bench", "peaks", "sweep steal 0 100 50")
+SCENARIO_WORDS = ("trace --brief", "check", "bench", "peaks", "sweep steal 0 100 50")
 
 # In how many places of a long output a write fails: a page's would be seven thousand, and take ten minutes.
 MOST_WRITES = 400
@@ -148,7 +148,7 @@ class Hostile:
 
 def words(hostile):
     """Each way to run the program, its input, and the whole text that comes of it."""
-    watched = [(word, BENCH) for word in ("trace", "picture", "page", "check")]
+    watched = [(word, BENCH) for word in ("trace", "page", "check")]
     watched += [(word, SCENARIO) for word in SCENARIO_WORDS]
     for word, text in (("script", SCRIPT), ("serial", BENCH), ("threads", THREADS), *watched):
         whole = hostile.run(word, text)
@@ -159,11 +159,13 @@ def words(hostile):
 def growths(hostile):
     """A run of which one growth is refused says so, and has written nothing, or of a sweep its first rows. Before it
     reads, the program takes memory for the command line, some of which it can do without: then the run goes on as if
-    nothing was refused."""
+    nothing was refused. That is tried of one command of each program, since all commands take it alike."""
+    tried = set()
     for word, text, whole in words(hostile):
         refusals = {NO_MEMORY, NO_THREAD} if word == "threads" else {NO_MEMORY}
-        spared = 0
-        for k in range(1, whole.growths + 1):
+        first, spared = whole.before_input if program_of(word) in tried else 0, 0
+        tried.add(program_of(word))
+        for k in range(first + 1, whole.growths + 1):
             ended = hostile.run(word, text, fail_growth=k)
             is_front = word.startswith("sweep") and whole.text.startswith(ended.text)
             is_told = ended.said in refusals and (not ended.text or is_front)
@@ -174,8 +176,7 @@ def growths(hostile):
         is_whole = ended.said == DONE and ended.growths == whole.growths
         hostile.expect(f"{word}, no growth left to refuse", is_whole, ended)
         hostile.expect(f"{word} can do without one growth at most", spared <= 1)
-        counts = f"{whole.before_input} of them for the command line, {spared} it can do without"
-        print(f"hostile: {word}: {whole.growths} growths refused one at a time, {counts}")
+        print(f"hostile: {word}: {whole.growths - first} growths refused one at a time, of which it can do without {spared}")
 
 
 def reads(hostile):
@@ -226,12 +227,12 @@ def ends(hostile):
 
 
 def texts(hostile):
-    """The help and the version, which read nothing: each growth and write refused in turn."""
+    """The help and the version, which read nothing: each write refused in turn, and each growth of the help."""
     for word in ("--help", "--version"):
         whole = hostile.run(word, b"")
         hostile.expect(f"{word} with nothing refused", whole.said == DONE and whole.text and not whole.reads, whole)
         spared = 0
-        for k in range(1, whole.growths + 1):
+        for k in range(1, whole.growths + 1) if word == "--help" else ():
             ended = hostile.run(word, b"", fail_growth=k)
             is_spared = ended.said == DONE and ended.text == whole.text
             spared += is_spared
@@ -246,7 +247,7 @@ def texts(hostile):
         hostile.expect(f"{word} without an output", closed == OUTPUT)
         closed = said_by(hostile, word, None, stdin=subprocess.DEVNULL, preexec_fn=lambda: os.close(0))
         hostile.expect(f"{word} without an input", closed == DONE)
-        print(f"hostile: {word}: {whole.growths} growths and {singly.writes} writes refused one at a time")
+        print(f"hostile: {word}: {singly.writes} writes refused one at a time")
 
 
 def within_8_mib():
@@ -265,15 +266,14 @@ def said_by(hostile, word, text, **settings):
 
 
 def benches(hostile):
-    """Each of 500 benches, made of the examples by seeded changes, is run or has one of the six faults of a bench."""
+    """Each of 500 benches, made of the examples by seeded changes, is run or has one of the faults of a bench."""
     examples = sorted(name for name in os.listdir(f"{TOP}/examples") if name.endswith(".toml"))
     texts = [it for it in (read(f"{TOP}/examples/{name}") for name in examples) if not is_scenario(it)][:5]
-    dice = random.Random(1202)
+    dice = make.Dice(1202)
     wanted = {DONE} | {(1, f"agc: {fault}\n".encode()) for fault in FAULTS}
     seen = {}
     for number in range(500):
-        text = changed(dice.choice(texts), dice)
-        said = said_by(hostile, "serial", text.encode())
+        said = said_by(hostile, "serial", make.damaged(dice, dice.choice(texts).encode()))
         seen[said] = seen.get(said, 0) + 1
         hostile.expect(f"bench {number} of 500 ends in {said}", said in wanted)
     hostile.expect("all benches end alike", len(seen) > 3)
@@ -283,35 +283,45 @@ def scenarios(hostile):
     """Each of 300 scenarios, made of those here by seeded changes, is run, or is told what is wrong and has a fault."""
     examples = sorted(name for name in os.listdir(f"{TOP}/examples") if name.endswith(".toml"))
     texts = [it for it in (read(f"{TOP}/examples/{name}") for name in examples) if is_scenario(it)]
-    dice = random.Random(1107)
+    dice = make.Dice(1107)
     wanted = {DONE} | {(1, f"agc: {fault}\n".encode()) for fault in FAULTS}
     seen = {}
     for number in range(300):
-        text = changed(dice.choice([*texts, SCENARIO.decode()]), dice)
-        status, lines = said_by(hostile, "peaks", text.encode())
+        text = make.damaged(dice, dice.choice([*texts, SCENARIO.decode()]).encode())
+        status, lines = said_by(hostile, "peaks", text)
         said = status, re.sub(rb"(?s)^agc: .*\nagc_watch: (?=[^\n]*\n$)", b"agc: ", lines)
         seen[said] = seen.get(said, 0) + 1
         hostile.expect(f"scenario {number} of 300 ends in {said}", said in wanted)
     hostile.expect("all scenarios end alike", len(seen) > 3)
 
 
-def changed(text, dice):
-    """One to three changes: a character or a line dropped, doubled or exchanged, a number or a word made another."""
-    pieces = ["0", "7", "9", "-1", "_", '"', "[", "]", "=", "\n", " ", "#", "é"]
-    pieces += ["limit", "77777", "00000", "tick", "sets = 9"]
-    for _ in range(dice.randint(1, 3)):
-        at, to = sorted(dice.randrange(len(text) + 1) for _ in range(2))
-        lines = text.split("\n")
-        line = dice.randrange(len(lines))
-        text = dice.choice([
-            text[:at] + text[at + 1 :],
-            text[:at] + dice.choice(pieces) + text[at:],
-            text[:at] + dice.choice(pieces) + text[at + 1 :],
-            text[:at] + text[to:] if to - at < 80 else text[:to],
-            "\n".join(lines[:line] + lines[line + 1 :]),
-            "\n".join(lines[: line + 1] + lines[line:]),
-        ])
-    return text
+def orders(hostile):
+    """Each of 300 small benches in every order, as tools/soak tries them; and a search that has more states than its bound."""
+    crowded(hostile)
+    for seed in range(BENCHES):
+        dice = make.Dice(seed)
+        table = make.small_bench(dice)
+        for words, given, is_right in plain_orders.searches(table, plain_orders.random_manner(dice, table)):
+            ended = hostile.run(words[0], make.toml(given).encode(), words=words[1:])
+            hostile.expect(f"bench {seed}: {' '.join(words)}", is_right(ended.status, ended.text.decode()), ended)
+
+
+def crowded(hostile):
+    """32 workers of two requests have more states than any bound, if no two of them ask the same. At a bound of 200,000
+    their search ends, undecided, and has taken no more than 400 bytes a state, besides the 4 MiB that the program is given
+    here."""
+    scripts = [[f"novac 10 {0o2100 + 8 * k:05o} 00005", "end"] for k in range(32)]
+    text = make.toml({"worker": [{"script": it} for it in scripts]})
+    called = [PROGRAMS["agc_watch"], "explore", "--states", "200000"]
+    with subprocess.Popen(called, stdin=subprocess.PIPE, stdout=subprocess.PIPE, stderr=subprocess.DEVNULL) as run:
+        run.stdin.write(text.encode())
+        run.stdin.close()
+        said = run.stdout.read()
+        _, status, used = os.wait4(run.pid, 0)
+        run.returncode = os.waitstatus_to_exitcode(status)
+    taken = ((used.ru_maxrss << 10) - (4 << 20)) / 200_001
+    hostile.expect(f"32 workers: {taken:.0f} bytes a state", taken <= 400)
+    hostile.expect("32 workers are undecided", run.returncode == 11 and said.count(b": undecided, 200,001 states") == 3)
 
 
 def read(path):
@@ -319,7 +329,7 @@ def read(path):
         return file.read()
 
 
-RUNS = (growths, reads, writes, ends, texts, benches, scenarios, orders, many, starter, progress, play, workbench, release)
+RUNS = (growths, reads, writes, ends, texts, benches, scenarios, orders, many, starter, progress, play, workbench)
 PARTS = {it.__name__: it for it in RUNS}
 
 

@@ -4,14 +4,14 @@ import time
 import repository
 from browsing.browser import LAPTOP, PHONE, SIZES
 from browsing.opened import TIGHT
-from browsing.pages import DRAWN, PROGRAM, TOP, Trial, press_try, save, written
+from browsing.pages import DRAWN, TOP, Trial, page_of, press_try, save
 from browsing.pictures import SHOWN_EXAMPLE, SHOWN_REQUEST
 
 # What a reader who can't see needs, and who sees little: rules of this project's own.
 NAMES = """(() => {
   const faults = [];
   const seen = new Set();
-  const isShown = (it) => it.getClientRects().length > 0;
+  const isShown = (it) => it.getClientRects().length > 0 && it.checkVisibility();
   const nameOf = (it) => {
     const by = it.getAttribute('aria-labelledby');
     if (by) return by.split(' ').map((id) => document.getElementById(id)?.textContent ?? '').join(' ');
@@ -49,7 +49,7 @@ NAMES = """(() => {
 # The order of headings, roles and what belongs to them, and what the document says of itself.
 ROLES = """(() => {
   const faults = [];
-  const isShown = (it) => it.getClientRects().length > 0;
+  const isShown = (it) => it.getClientRects().length > 0 && it.checkVisibility();
   const all = (what) => Array.from(document.querySelectorAll(what));
   const expect = (holds, fault) => { if (!holds) faults.push(fault); };
   expect(document.documentElement.lang === 'en', 'the language');
@@ -105,8 +105,10 @@ CONTRAST = """(() => {
   };
   const faults = [];
   const against = (one, other) => (Math.max(one, other) + 0.05) / (Math.min(one, other) + 0.05);
-  for (const it of document.querySelectorAll('button, input:not([type=range]), select, textarea, .boxes li')) {
+  for (const it of document.querySelectorAll('button, input:not([type=range]), select, textarea')) {
     if (it.getClientRects().length === 0 || it.disabled || it.type === 'checkbox') continue;
+    // (a quiet button is its text)
+    if (/, 0\)$/.test(getComputedStyle(it).borderTopColor) || getComputedStyle(it).borderTopWidth === '0px') continue;
     const [edge, below] = [getComputedStyle(it).borderTopColor, ground(it.parentElement)];
     const contrast = against(light(numbers(edge)), light(below));
     if (contrast < 3) faults.push(`an edge, ${contrast.toFixed(1)}: ${it.id} ${it.textContent.slice(0, 30)}`);
@@ -141,7 +143,7 @@ def names(browser, folder):
     the page, with a line around it."""
     trial = Trial("names")
     with open(f"{TOP}/examples/{SHOWN_EXAMPLE}.toml", encoding="utf-8") as file:
-        path = save(folder, "names", written(PROGRAM, "page", file.read()))
+        path = save(folder, "names", page_of(file.read()))
     for size in SIZES:
         browser.width(*size)
         for scheme in "light", "dark":
@@ -158,7 +160,7 @@ def names(browser, folder):
                 trial.expect(f"{told}: {wide} points wide", wide <= size[0])
                 if opened:
                     browser.press("Escape")
-    timed = save(folder, "names-timed", written(PROGRAM, "page", TIGHT))
+    timed = save(folder, "names-timed", page_of(TIGHT))
     for size in PHONE, LAPTOP:
         browser.width(*size)
         for scheme in "dark", "light":
@@ -183,7 +185,7 @@ def names(browser, folder):
 
 # The controls of the page, in its order, and which of them has the focus.
 CONTROLS = """Array.from(document.querySelectorAll('button, input, select, summary, a[href]')).filter((it) => it.tabIndex >= 0)
-  .filter((it) => !it.disabled && it.getClientRects().length > 0)"""
+  .filter((it) => !it.disabled && it.getClientRects().length > 0 && it.checkVisibility())"""
 
 
 def reach(browser, trial, told):
@@ -205,7 +207,8 @@ STEPPED = """(() => {
     'h2, button[id], input, .boxes, .boxes li, canvas, #told, #hint')).map((it) => {
     if (it.closest('#try, #told, dialog, .print-only, .sliders, #beside')) return '';
     const box = it.getBoundingClientRect();
-    return [it.id || it.parentElement.id, box.left, box.top + scrollY, box.height].map((one) =>
+    // (a free place is half as high, within its row)
+    return [it.id || it.parentElement.id, box.left, box.top + scrollY, it.matches('.boxes li') ? 0 : box.height].map((one) =>
       (typeof one === 'number' ? Math.round(one) : one)).join(' ');
   });
   const slider = document.getElementById('slider');
@@ -230,7 +233,7 @@ def calm(browser, folder):
     for name, rows in ((SHOWN_EXAMPLE, "2, 10, 19, 20, 21"), ("waitlist-full", "2, 9, 12, 13"),
                        ("no-vac-area", "3, 5, 6, 7"), ("tight", "2, 3412, 3413, 3414")):
         text = TIGHT if name == "tight" else repository.text_of(f"{TOP}/examples/{name}.toml")
-        path = save(folder, f"calm-{name}", written(PROGRAM, "page", text))
+        path = save(folder, f"calm-{name}", page_of(text))
         for size in SIZES:
             browser.width(*size)
             browser.show(path)
@@ -238,7 +241,7 @@ def calm(browser, folder):
             trial.expect(f"{name}, {size[0]} points, {moved}", moved == "")
     browser.width(*LAPTOP)
     browser.scheme("light", is_calm=True)
-    browser.show(save(folder, "calm", written(PROGRAM, "page", TIGHT)))
+    browser.show(save(folder, "calm", page_of(TIGHT)))
     trial.expect("something moves by itself", browser.value(
         "document.getAnimations().length === 0 && Array.from(document.querySelectorAll('*')).every((it) =>"
         " parseFloat(getComputedStyle(it).transitionDuration) === 0)"))

@@ -2,8 +2,7 @@
 import json
 import random
 
-from browsing.pages import (
-    COUNTS, PROGRAM, Trial, open_text, open_words, run_serial, save, table, type_line, words_in, written)
+from browsing.pages import COUNTS, Trial, open_text, open_words, page_of, run_serial, save, table, type_line, words_in
 
 
 def compare_words(browser, trial, bench):
@@ -25,7 +24,7 @@ def words(browser, folder):
     """Random benches are opened, and each tenth typed in request by request: the words at the end are
     those of agc serial."""
     trial, dice = Trial("words"), random.Random(7)
-    browser.show(save(folder, "words", written(PROGRAM, "page", "")), "#new")
+    browser.show(save(folder, "words", page_of("")), "#new")
     open_words(browser)
     for k in range(COUNTS["benches"]):
         bench, lines = random_bench(dice)

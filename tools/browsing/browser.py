@@ -119,13 +119,13 @@ class Browser:
     def show(self, path, mark=""):
         """Opens a page of the workbench, and waits until its script has run."""
         self.open(path, mark)
-        if not self.wait("document.documentElement.dataset.ready === 'yes'"):
+        if not self.wait("document.documentElement.dataset.ready === 'yes' && document.getElementById('chart-box').dataset.filling !== 'yes'"):
             raise OSError(f"the page isn't ready: {self.value('window.broken')}")
 
     def value(self, text, is_awaited=False):
         got = self.call("Runtime.evaluate", expression=text, returnByValue=True, awaitPromise=is_awaited)
         if "exceptionDetails" in got:
-            raise OSError(got["exceptionDetails"]["text"])
+            raise OSError(f"{text[:200]}: {got['exceptionDetails'].get('exception', {}).get('description')}")
         return got["result"].get("value")
 
     def wait(self, text):

@@ -11,7 +11,7 @@ from browsing.clock import random_scenario
 from browsing.kept import again
 from browsing.opened import NAMED, THREE_ALARMS, TIGHT
 from browsing.pages import (
-    COUNTS, PROGRAM, TOP, Trial, go_to, open_text, save, saved, says, steady, table, type_line, written)
+    COUNTS, PROGRAM, TOP, Trial, go_to, open_text, page_of, save, saved, says, steady, table, type_line, written)
 from browsing.reader import damaged
 from browsing.traces import rows_of
 
@@ -172,7 +172,7 @@ def play(browser, trial, tabs=(), path=""):
 
 def soak(browser, folder):
     """Random keys, clicks and documents, F5, Back, Forward and saved links, in two tabs."""
-    trial, path = Trial(f"soak from seed {COUNTS['seed']}"), save(folder, "soak", written(PROGRAM, "page", ""))
+    trial, path = Trial(f"soak from seed {COUNTS['seed']}"), save(folder, "soak", page_of(""))
     tabs = browser.session, browser.tab()
     for it in reversed(tabs):
         browser.session = it
@@ -192,7 +192,7 @@ def long(browser, folder):
     script = [f"list {k + 1} {0o2000 + k:05o} 00005" for k in range(9)]
     bench = (f"limit = 200000\nscript = {json.dumps(script)}\n{tables}"
              + table("device", line="timer", pulses=100_000))
-    path = save(folder, "long", written(PROGRAM, "page", bench))
+    path = save(folder, "long", page_of(bench))
     browser.call("Performance.enable", timeDomain="threadTicks")
     browser.show(path, "#50000")
     took = browser.worked()

@@ -2,7 +2,6 @@
 import json
 import random
 import re
-import sys
 import time
 import tomllib
 
@@ -11,7 +10,9 @@ from browsing.benches import compare_words, random_line
 from browsing.browser import PATIENCE
 from browsing.opened import TIGHT
 from browsing.pages import (
-    COUNTS, PROGRAM, TOP, Trial, open_text, press_try, save, saved, says, set_slider, table, written)
+    COUNTS, PROGRAM, Trial, open_text, page_of, press_try, save, saved, says, set_slider, set_speed, table, written)
+from plain import make
+from plain.time import Clock, Row
 
 
 def random_scenario(dice):
@@ -37,33 +38,22 @@ def random_scenario(dice):
 
 
 def bench_of(scenario):
-    """The requests that a scenario comes to by a plain program, and a bench that asks for them."""
+    """The requests that a scenario comes to by the plain model, and a bench that asks for them."""
     read = tomllib.loads(scenario)
-    sys.path.insert(0, f"{TOP}/tools/soaking")
-    import clock as plain
-    asked = [line for _, _, line in plain.Passing(read, plain.Plain(read)).run()]
-    bench = f"sets = {read.get('sets', 7)}\nlimit = 1000000\nscript = {json.dumps(asked)}\n"
-    for kind in "task", "phase":
-        bench += "".join(table(kind, **it) for it in read.get(kind, []))
-    return asked, bench
-
-
-def plain_scenario(seed):
-    """A scenario of the plain program's own dice."""
-    sys.path.insert(0, f"{TOP}/tools/soaking")
-    import clock as plain
-    return plain.text_of(plain.Dice(seed).scenario())
+    asked = [it.line for it in Clock(read).run() if isinstance(it, Row)]
+    # (a bench has no names)
+    tables = {kind: [{key: one for key, one in it.items() if key != "name"} for it in read.get(kind, [])] for kind in ("task", "phase")}
+    return asked, make.toml({"sets": read.get("sets", 7), "limit": 1000000, "script": asked, **tables})
 
 
 def clock(browser, folder):
-    """Random scenarios are opened: they come to the requests that a plain program of tools/soaking lists,
-    and to the words that agc serial leaves of these. Then time is let run and pause, a slider forks,
-    and what is tried at an alarm prevents it."""
+    """Random scenarios are opened: they come to the requests that the plain model lists, and to the words that agc
+    serial leaves of these. Then time is let run and pause, a slider forks, and what is tried at an alarm prevents it."""
     trial, dice = Trial("clock"), random.Random(5)
-    browser.show(save(folder, "clock", written(PROGRAM, "page", "")), "#new")
+    browser.show(save(folder, "clock", page_of("")), "#new")
     browser.value("document.getElementById('words-box').open = true")
     for k in range(COUNTS["scenarios"]):
-        scenario = random_scenario(dice) if k % 2 == 0 else plain_scenario(k)
+        scenario = random_scenario(dice) if k % 2 == 0 else make.toml(make.scenario(make.Dice(k)))
         fault = open_text(browser, scenario)
         if not trial.expect(f"{fault}: {scenario}", not fault):
             continue
@@ -100,7 +90,7 @@ def try_time(browser, trial):
     browser.value("document.querySelector('#sliders input').dispatchEvent(new Event('change'))")
     trial.expect(f"a branch: {browser.text('branches')}", "stolen time" in browser.text("branches"))
     trial.expect(f"sooner: {browser.text('summary')}", " at 0.63 s" in browser.text("summary"))
-    browser.value("document.getElementById('speed').value = '0.1'")
+    set_speed(browser, "0.1")
     browser.value("document.activeElement.blur()")
     begun = time.monotonic()
     browser.press(" ")

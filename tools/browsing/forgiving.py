@@ -1,6 +1,9 @@
 """What is typed nearly right, scripts, and the document beside its run."""
+import json
+import subprocess
+
 from browsing.browser import LAPTOP
-from browsing.pages import PROGRAM, Trial, edit_text, exercise, open_text, says, save, texts, type_line, written
+from browsing.pages import PROGRAM, Trial, edit_text, exercise, filled, open_text, page_of, save, says, texts, type_line
 
 
 def paste(browser, text):
@@ -9,13 +12,47 @@ def paste(browser, text):
 
 
 def try_keys_of_others(browser, trial):
-    """A key that is nearly `seconds` is told in its own line, and one of another kind of document or table as agc_watch check tells it."""
+    """A key that is nearly `seconds` is told in its own line, one of another kind of document or table as agc_watch check tells it, and any
+    other with the keys that there are, and the one that may be meant."""
     for text, wanted in (('title = "A"\nsecnds = 5\nsteal = 3\n', 'line 2: unknown key "secnds"; did you mean "seconds"?'),
                          ('steal = 5\nscript = ["tick"]\n', 'line 1: unknown key "steal"; a scenario has it, which has "seconds" too'),
                          ('seconds = 5\nscript = ["tick"]\n', 'line 2: unknown key "script"; a bench has it, but no scenario'),
-                         ('seconds = 5\n[[job]]\nat = "04000"\ncost = 1\nsteal = 5\n', 'line 5: job 1: unknown key "steal"; it belongs above all tables')):
+                         ('seconds = 5\n[[job]]\nat = "04000"\ncost = 1\nsteal = 5\n', 'line 5: job 1: unknown key "steal"; it belongs above all tables'),
+                         ('seconds = 1\n[[event]]\nat = 0\naction = "tick"\n', 'line 4: event 1: unknown key "action" in an event; did you mean "do"? '
+                          "Known: name, at, after, do, every, until"),
+                         ('seconds = 1\n[[job]]\nwcet = 5\n', 'line 3: job 1: unknown key "wcet" in a job; did you mean "cost"? Known: name, at, cost, deadline, then')):
         fault = open_text(browser, text)
-        trial.expect(f"{text!r}: {fault}", fault == f"This can't be opened. {wanted}")
+        trial.expect(f"{text!r}: {fault}", fault.startswith(f"This can't be opened. {wanted}"))
+
+
+# Fills the fields of a new job, and adds it.
+ADD = """(() => { const fields = [...document.querySelectorAll('#build-fields input')];
+  GIVEN.forEach((it, k) => { if (typeof it === 'boolean') fields[k].checked = it; else fields[k].value = it; });
+  document.getElementById('build-add').click(); })()"""
+
+
+def try_building(browser, trial):
+    """New has a form for jobs without an octal number; it writes a scenario, which agc_watch takes, beside its run. A wrong number is told."""
+    browser.click("new")
+    for given, said in ((["guidance", "0", "1.7", "16", "2", True], "every: a number, 0.01 to 162.5 (seconds)"),
+                        (["guidance", "2", "1.7", "32", "2", True], "priority: a number, 1 to 31 (a greater one is more urgent)"),
+                        (["guidance", "2", "1.7", "16", "x", True], "deadline: a number, 0.01 to 86400 (seconds; none if it is empty)")):
+        browser.value(ADD.replace("GIVEN", json.dumps(given)))
+        trial.expect(f"{given}: {browser.text('build-fault')}", browser.text("build-fault") == said)
+    for given in ["guidance", "2", "1.7", "16", "2", True], ['a "quoted" one', "1", "0.4", "24", "", False]:
+        browser.value(ADD.replace("GIVEN", json.dumps(given)))
+        filled(browser)
+    browser.wait("!document.getElementById('jobs-box').hidden")
+    trial.expect(browser.text("jobs-sum"), browser.text("jobs-sum").startswith('Jobs: guidance 85 % + a "quoted" one 40 % = 125 %; '))
+    document = browser.value("document.getElementById('edit-text').value")
+    ran = subprocess.run([PROGRAM, "check"], input=document, capture_output=True, text=True, check=False)
+    trial.expect(f"check: {ran.stdout} {document}", ran.returncode == 0 and "findvac 20 04000" in document and "deadline = 200" in document)
+    browser.value("document.querySelector('#built button').click()")
+    filled(browser)
+    trial.expect("a job that is removed", "guidance" not in browser.value("document.getElementById('edit-text').value"))
+    browser.value("document.querySelector('#built button').click()")
+    trial.expect("no job is left", browser.text("title") == "An empty bench" and not browser.value("document.getElementById('build').hidden"))
+    browser.click("edit-close")
 
 
 def forgiving(browser, folder):
@@ -23,7 +60,7 @@ def forgiving(browser, folder):
     is marked in its line beside the run."""
     trial = Trial("forgiving")
     browser.width(*LAPTOP)
-    browser.show(save(folder, "forgiving", written(PROGRAM, "page", "")), "#new")
+    browser.show(save(folder, "forgiving", page_of("")), "#new")
     for line, asked, told in (("NOVAC 20 2000 5", "novac 20 02000 00005", "02000 and 00005 are meant"), ("findvac  7 02000 00005", "findvac 07 02000 00005", "07 is meant"),
                               ("List 007 2100 00005", "list 7 02100 00005", "7 and 02100 are meant")):
         type_line(browser, line)
@@ -68,6 +105,7 @@ def forgiving(browser, folder):
     trial.expect(f"a script beside its run: {found}", found == ("tick\nchange\n", "", "2"))
     browser.click("edit-close")
     try_keys_of_others(browser, trial)
+    try_building(browser, trial)
     browser.value("Array.from(document.querySelectorAll('#common button')).find((it) => it.textContent.startsWith('findvac')).click()")
     browser.press("Enter")
     trial.expect("Enter in a form's first field does nothing", not browser.value("document.getElementById('dialog').open"))

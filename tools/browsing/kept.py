@@ -1,10 +1,11 @@
 """Nothing is lost: the address says what is shown."""
 from browsing.browser import LAPTOP
-from browsing.pages import PROGRAM, Trial, go_to, save, set_slider, steady, texts, type_line, wait_for, written
+from browsing.opened import TIGHT
+from browsing.pages import Trial, go_to, open_text, page_of, save, set_slider, steady, texts, type_line, wait_for
 
 ROW = "document.getElementById('sentence').textContent"
 STATE = """[document.getElementById('sentence').textContent, document.getElementById('summary').textContent,
-  document.getElementById('differs').textContent, document.getElementById('window').style.width].join('; ')"""
+  document.getElementById('differs').textContent, document.getElementById('chart-box').dataset.seen].join('; ')"""
 
 
 def settled(browser):
@@ -24,7 +25,7 @@ def kept(browser, folder):
     and branches. A link that is damaged, cut, or names no exercise says so. Embedded, chart, tables and why stand alone."""
     trial = Trial("kept")
     browser.width(*LAPTOP)
-    path = save(folder, "kept", written(PROGRAM, "page", ""))
+    path = save(folder, "kept", page_of(""))
     browser.show(path, "#landing-1202")
     browser.press("x")
     set_slider(browser, 5)
@@ -55,7 +56,8 @@ def kept(browser, folder):
     go_to(browser, "3")
     settled(browser)
     browser.click("examples")
-    browser.value("Array.from(document.querySelectorAll('#dialog-body button')).find((it) => it.textContent === 'landing').click()")
+    browser.value("Array.from(document.querySelectorAll('#dialog-body li')).find((it) => it.querySelector('.name').textContent === 'landing')"
+                  ".querySelector('button').click()")
     trial.expect("another document", settled(browser) == "#landing")
     browser.value("history.back()")
     wait_for(browser, "Request 3 of")
@@ -63,6 +65,7 @@ def kept(browser, folder):
     browser.value("history.forward()")
     wait_for(browser, "The beginning")
     trial.expect(f"Forward: {browser.text('title')}", browser.text("title").startswith("A landing: a radar"))
+    try_sharing(browser, trial, path)
     try_links(browser, trial, path)
     try_numbers(browser, trial, path)
     browser.show(path, "#landing-1202&at=3128&embed")
@@ -91,6 +94,35 @@ def try_numbers(browser, trial, path):
     again(browser)
     told = browser.value("document.querySelector('#sliders input').value"), browser.value(ROW)
     trial.expect(f"stolen time after F5: {told}", told[0] == "30" and told[1].startswith("Request 1 of 1"))
+
+
+def shared(browser):
+    """The link and the frame that Share has."""
+    browser.click("share")
+    browser.wait("!!document.getElementById('share-link')?.value")
+    found = browser.value("['share-link', 'share-frame'].map((it) => document.getElementById(it).value)")
+    browser.press("Escape")
+    return found
+
+
+def try_sharing(browser, trial, path):
+    """A shared link brings back row, part, what was done, and the run before; a link to a row of a long run shows what is around it; a
+    frame has chart and story alone."""
+    browser.show(path, "#landing-1202&at=3128")
+    seen = browser.value("document.getElementById('chart-box').dataset.seen")
+    trial.expect(f"around a step: {seen}", seen == "1950-3400")
+    open_text(browser, TIGHT)
+    set_slider(browser, 0)
+    looks = "[document.getElementById('outcome').textContent, document.getElementById('sentence').textContent," \
+            " document.getElementById('chart-box').dataset.seen].join('|')"
+    before = browser.value(looks)
+    trial.expect(before, "Before: " in before and "alarm" in before and "Now: no alarm" in before)
+    link, frame = shared(browser)
+    trial.expect(f"{link} {frame}", link.endswith("&was=0") and frame.startswith('<iframe src="file:') and "&amp;embed" in frame)
+    browser.show(path, link[link.index("#"):])
+    trial.expect(f"{browser.value(looks)}, and not {before}", browser.value(looks) == before)
+    browser.show(path, "#landing-1202&was=xyz")
+    trial.expect(f"a damaged link: {browser.text('note')}", "can't be read" in browser.text("note"))
 
 
 def try_links(browser, trial, path):

@@ -13,7 +13,8 @@ KEYED = (("ArrowLeft", "back", "Row before (left arrow)"), ("ArrowRight", "next"
 HELPED = ("← → the row before, the next row", "Home End the first row, the last", "a A the next alarm, the alarm before",
           "c C the next change, the change before", "g go to a request or a time", "i / type a request", "space run the clock, or pause",
           ". n a centisecond; to the next event", "u r undo, redo", "b o e new, open, examples", "d p s edit, plan, save", "+ - closer, wider",
-          "[ ] move along the chart", "f x all of the chart; to an alarm", "? this help")
+          "[ ] move along the chart", "f x all of the chart; to an alarm",
+          "P larger, for a projector: chart and story alone", "? this help")
 
 # What the help says of each request.
 MEANT = ("novac P A W establish a job without a VAC area|findvac P A W establish a job with a VAC area|end end the running job|"

@@ -1,9 +1,10 @@
-"""The lanes of the chart: blocks, what is told of them, and zoom."""
+"""The chart: its lanes and bands, what is told of them, and zoom."""
 import json
 import re
 
 from browsing.browser import LAPTOP, PHONE, SIZES, wait
-from browsing.pages import DRAWN, PROGRAM, TOP, Trial, go_to, open_text, says, save, set_slider, table, written
+from browsing.opened import STRIPED
+from browsing.pages import DRAWN, Trial, filled, go_to, open_text, page_of, save, says, set_slider, table
 
 # Two jobs of different names in turn, one that sleeps, an event with a name, and an alarm at the end.
 LANED = "seconds = 20\nsteal = 20\n" + "".join((
@@ -12,166 +13,144 @@ LANED = "seconds = 20\nsteal = 20\n" + "".join((
     table("event", name="press", at=100, do="novac 30 05000 00005", every=200),
     table("event", name="flood", at=1500, do=[*8 * ["novac 10 05100 00005"]])))
 
-# The colour of a point of the lanes, and where the sets are: `at` is a part of the width, `set` a core set.
-POINT = """((at, set) => {
-  const canvas = document.getElementById('lanes-chart');
-  const names = Array.from(document.querySelectorAll('#lane-names li')).map((it) => parseFloat(it.style.top));
-  const scale = canvas.width / canvas.clientWidth;
-  const data = canvas.getContext('2d').getImageData(Math.floor(at * canvas.width), Math.floor((names[set] + 2) * scale), 1, 1).data;
-  return '#' + Array.from(data.slice(0, 3), (it) => it.toString(16).padStart(2, '0')).join('');
-})"""
-BOX = "(() => { const it = document.getElementById('lanes-chart').getBoundingClientRect(); return [it.left, it.top, it.width, it.height]; })()"
-SEEN = "[parseFloat(document.getElementById('window').style.left) || 0, parseFloat(document.getElementById('window').style.width)]"
-BRIGHT = ["#0072b2", "#e69f00", "#009e73", "#cc79a7"]
-PALE = ["#a6cee4", "#f6dda6", "#a6ddce", "#edd0e0"]
-
-
-def point(browser, at, core_set):
-    """The colour there: of those that are known the one that it nearly is."""
-    found = browser.value(f"{POINT}({at}, {core_set})")
-    parts = lambda it: [int(it[k:k + 2], 16) for k in (1, 3, 5)]
-    near = [it for it in BRIGHT + PALE if max(abs(one - other) for one, other in zip(parts(it), parts(found))) < 9]
-    return near[0] if near else found
-
-
-def pointer(browser, kind, at, core_set, **more):
-    left, top, wide, _ = browser.value(BOX)
-    y = browser.value(f"parseFloat(document.querySelectorAll('#lane-names li')[{core_set}].style.top)")
-    browser.call("Input.dispatchMouseEvent", type=kind, x=left + at * wide, y=top + y, **more)
-
-
-# How light the blocks of core sets 0 and 1 are on the right, and the ground in core set 2.
-APART = """(() => {
-  const it = document.getElementById('lanes-chart');
-  const ys = Array.from(document.querySelectorAll('#lane-names li'), (one) => parseFloat(one.style.top)).slice(0, 3);
-  const ground = getComputedStyle(document.querySelector('.bar')).backgroundColor.match(/[0-9]+/g).map(Number);
-  const seen = ys.map((y) => Array.from(it.getContext('2d').getImageData(Math.round(0.9 * it.width), Math.round(y), 1, 1).data));
-  const light = ([r, g, b]) => 0.3 * r + 0.6 * g + 0.1 * b;
-  return [light(seen[0]), light(seen[1]), light(seen[2][3] === 0 ? ground : seen[2])];
-})()"""
-
-
-def lanes(browser, folder):
-    """A lane for each core set with its jobs as blocks over time: bright while they run, pale while they wait, hatched while they
-    sleep, coloured by name. What is pointed at is told, a click goes there. Wheel, pinch, keys, a drawn range and buttons zoom."""
-    trial = Trial("lanes")
-    browser.width(*LAPTOP)
-    browser.show(save(folder, "lanes", written(PROGRAM, "page", LANED)))
-    found = point(browser, 0.97 / 20, 0), point(browser, 2.1 / 20, 0), point(browser, 2.1 / 20, 2)
-    trial.expect(f"ALPHA runs, then BETA, and ALPHA waits: {found}", found == (BRIGHT[0], BRIGHT[1], PALE[0]))
-    row = {browser.value(f"{POINT}({k / 1000}, 1)") for k in range(500, 540)}
-    trial.expect(f"a sleeper is hatched: {row}", len(row) > 2)
-    boxes = browser.value("document.querySelector('#sets li').className")
-    go_to(browser, "0.5 s")
-    boxes = browser.value("document.querySelector('#sets li').className")
-    trial.expect(f"the box of ALPHA is {boxes}", boxes.startswith("j1 "))
-    browser.value("window.scrollTo(0, 0)")
-    pointer(browser, "mouseMoved", 0.5 / 20, 0)
-    told = browser.text("block")
-    trial.expect(f"pointed at: {told}", re.match("0[.][45][0-9] s, core set 0: job 2, ALPHA .04000., priority 20, runs, since request 3", told)
-                 and "; until end, request " in told)
-    for kind in "mousePressed", "mouseReleased":
-        pointer(browser, kind, 1.2 / 20, 0, button="left", clickCount=1)
-    row = browser.text("sentence").split(" s: ")[0]
-    trial.expect(f"a click: {row}", re.search("at 1[.](1[5-9]|2[0-4])$", row))
-    try_zoom(browser, trial, row)
-    try_rows(browser, trial)
-    open_text(browser, LANED)
-    for size in SIZES:
-        browser.width(*size)
-        wait(lambda: point(browser, 0.97 / 20, 0) == BRIGHT[0])
-        found = point(browser, 0.97 / 20, 0)
-        trial.expect(f"{size[0]} points: {found}", found == BRIGHT[0])
-    browser.width(*LAPTOP)
-    open_text(browser, 'script = ["novac 20 04000 00005", "end"]\n')
-    names = browser.value("Array.from(document.querySelectorAll('#lane-names li'), (it) => it.textContent).join(' ')")
-    trial.expect(f"without a clock: {names}", names == "set 0 set 1 set 2 set 3 set 4 set 5 set 6 areas tasks")
-    for scheme in "light", "dark":
-        browser.scheme(scheme)
-        open_text(browser, f'script = {json.dumps(2 * ["novac 20 04000 00005"] + 8 * ["phase 1 1"])}\n')
-        runs, waits, ground = browser.value(f"{DRAWN}.then(() => {APART})", True)
-        trial.expect(f"{scheme}: runs {runs}, waits {waits}, ground {ground}", abs(runs - ground) > 1.4 * abs(waits - ground) > 20)
-    browser.scheme("light")
-    try_alike(browser, trial, save(folder, "alike", written(PROGRAM, "page", "")))
-    trial.expect(f"{browser.shown()['broken']}", not browser.shown()["broken"])
-    return trial.faults
-
-
-# The boxes of three core sets: their classes, and what colours they have.
-BOXES = """Array.from(document.querySelectorAll('#sets li')).slice(1, 4).map((it) => [it.className.match(/s[1-8]/)[0],
-  '#' + getComputedStyle(it).backgroundColor.match(/[0-9]+/g).map((one) => Number(one).toString(16).padStart(2, '0')).join('')])"""
-
-
-def try_alike(browser, trial, path):
-    """The picture that agc_watch draws of the flight, with time, has the page's lanes, marks and colours, by name."""
-    with open(f"{TOP}/examples/apollo-11.svg", encoding="utf-8") as file:
-        drawn = file.read()
-    texts_of = re.findall(r"<text([^>]*)>([^<]*)", drawn)
-    browser.show(path, "#apollo-11")
-    browser.press("a")
-    for name, (kind, colour) in zip(("waits 1", "waits 2", "waits 3"), browser.value(BOXES)):
-        marked = {mark for given, text in texts_of if text == name for mark in re.findall('class="on-h([1-8])"', given)}
-        trial.expect(f"{name} is {kind} on the page, and {marked} in the picture", marked == {kind[1]})
-        trial.expect(f"{name} is {colour} on the page", f".{kind}{{fill:{colour}}}" in drawn)
-    names = browser.value("Array.from(document.querySelectorAll('#lane-names li'), (it) => it.textContent)")
-    lanes_drawn = [text for _, text in texts_of]
-    trial.expect(f"lanes {names}", len(names) == 12 and all(it in lanes_drawn or it == "areas" for it in names))
-    for it in "area 1", "area 5", "events", "ignition", "V16N68", "P64", "27 %", "1202", "1201", "Bright: the job runs; pale: it waits; hatched: it sleeps.":
-        trial.expect(f"the picture lacks {it}", it in lanes_drawn)
-    for k, colour in enumerate(BRIGHT):
-        trial.expect(f"the picture's colour {k + 1} isn't {colour}", f".j{k + 1}{{fill:{colour}}}" in drawn)
-
-
-# The colours down the lanes at a part of the width, as far as they are plain.
-COLUMN = """((at) => {
-  const canvas = document.getElementById('lanes-chart');
-  const { data } = canvas.getContext('2d').getImageData(Math.floor(at * canvas.width), 0, 1, canvas.height);
-  return Array.from({ length: canvas.height }, (_, y) => '#' + Array.from(data.slice(4 * y, 4 * y + 3), (it) => it.toString(16).padStart(2, '0')).join(''));
-})"""
-
 # ALPHA has an area until 3.75 s, of which a fifth is stolen; its task waits until 5 s; then nothing is left but an alarm at 15 s.
 ROWS = "seconds = 20\nsteal = 20\n" + "".join((
     table("job", name="ALPHA", at="04000", cost=300), table("event", name="begin", at=0, do=["findvac 20 04000 00005", "list 500 02000 00005"]),
     table("event", name="flood", at=1500, do=[*8 * ["novac 10 05100 00005"]])))
 
+# Where time runs on the chart, in points of the window: the line of the row that is shown is at its left and right end.
+PLOT = """(() => {
+  const box = document.getElementById('lanes-chart').getBoundingClientRect();
+  const [cursor, slider] = ['cursor', 'slider'].map((it) => document.getElementById(it));
+  const [at, max] = [slider.value, slider.max];
+  const ends = [0, max].map((row) => { slider.value = row; slider.dispatchEvent(new Event('input')); return box.left + parseFloat(cursor.style.left); });
+  slider.value = at; slider.dispatchEvent(new Event('input'));
+  return [...ends, box.top, box.height];
+})()"""
 
-def try_rows(browser, trial):
-    """Below the core sets: areas, tasks that wait, stolen and idle time; above them alarms, and events by name. Each says what it is."""
-    open_text(browser, ROWS)
-    names = browser.value("Array.from(document.querySelectorAll('#lane-names li'), (it) => it.textContent).join(' ')")
-    trial.expect(f"lanes: {names}", names == "set 0 set 1 set 2 set 3 set 4 set 5 set 6 areas tasks stolen idle")
-    middles = browser.value("Array.from(document.querySelectorAll('#lane-names li'), (it) => parseFloat(it.style.top))")
-    for what, colour, lane, early, late in ("an area", BRIGHT[0], 7, True, False), ("a task", "#8c564b", 8, True, False), \
-            ("stolen time", "#767676", 9, True, True), ("idle time", "#5f87a5", 10, False, True):
-        for at, wanted in (1 / 20, early), (10 / 20, late):
-            column = browser.value(f"{COLUMN}({at})")
-            near = column[int(middles[lane] + middles[lane - 1]) // 2 if lane > 7 else int(middles[7] - 14):int(middles[lane] + 8)]
-            trial.expect(f"{what} at {20 * at:.0f} s: {sorted(set(near))}", (colour in near) == wanted)
-    for lane, at, wanted in (7, 1 / 20, "VAC area 3: free"), (8, 1 / 20, "Waitlist: nothing waits here"), (9, 1 / 20, ": 20 % of the time is stolen"), \
-            (10, 1 / 20, ": a job runs"), (10, 10 / 20, ": no job runs"):
-        pointer(browser, "mouseMoved", at, lane)
-        trial.expect(f"{wanted}: {browser.text('block')}", wanted in browser.text("block"))
-    try_places(browser, trial)
+# Of the points down the chart at a place across the ones at which this is told: their middle, and what is told there first.
+FOUND = """((x, wanted) => {
+  const canvas = document.getElementById('lanes-chart');
+  const { top, height } = canvas.getBoundingClientRect();
+  const found = [];
+  for (let y = 1; y < height; y += 2) {
+    canvas.dispatchEvent(new PointerEvent('pointermove', { clientX: x, clientY: top + y, pointerType: 'mouse', bubbles: true }));
+    const block = document.getElementById('block');
+    if (!block.hidden && block.textContent.includes(wanted)) found.push([top + y, block.textContent]);
+  }
+  return found[found.length >> 1] ?? null;
+})"""
+
+# The colour of a point of the window, on the chart.
+POINT = """((x, y) => {
+  const canvas = document.getElementById('lanes-chart');
+  const box = canvas.getBoundingClientRect();
+  const scale = canvas.width / box.width;
+  const { data } = canvas.getContext('2d').getImageData(Math.floor((x - box.left) * scale), Math.floor((y - box.top) * scale), 1, 1);
+  return data[3] > 0 ? Array.from(data.slice(0, 3)) : getComputedStyle(document.getElementById('chart-box')).backgroundColor.match(/[0-9]+/g).map(Number);
+})"""
+SEEN = """(() => { const [from, to] = document.getElementById('chart-box').dataset.seen.split('-').map(Number); return [from, to - from]; })()"""
+BRIGHT = [(0, 114, 178), (230, 159, 0), (0, 158, 115), (204, 121, 167)]
+PALE = [(166, 206, 228), (246, 221, 166), (166, 221, 206), (237, 208, 224)]
+
+
+class Chart:
+    """The chart of a run that is all seen: points of it by parts of its time."""
+
+    def __init__(self, browser):
+        self.browser = browser
+        browser.value("window.scrollTo(0, 0)")
+        self.left, self.right, self.top, self.high = browser.value(PLOT)
+
+    def x(self, part):
+        return self.left + part * (self.right - self.left)
+
+    def told(self, part, wanted):
+        """What is told there, of what has this in it; nothing where nothing has."""
+        found = self.browser.value(f"{FOUND}({self.x(part)}, {json.dumps(wanted)})")
+        return found and found[1]
+
+    def y(self, part, wanted):
+        return self.browser.value(f"{FOUND}({self.x(part)}, {json.dumps(wanted)})")[0]
+
+    def colour(self, part, wanted):
+        """The colour of what has this told of it, above its name."""
+        return tuple(self.browser.value(f"{POINT}({self.x(part)}, {self.y(part, wanted) - 6})"))
+
+    def pointer(self, kind, part, wanted, **more):
+        self.browser.call("Input.dispatchMouseEvent", type=kind, x=self.x(part), y=self.y(part, wanted), **more)
+
+
+def near(one, other):
+    return all(abs(a - b) < 9 for a, b in zip(one, other))
+
+
+def lanes(browser, folder):
+    """A lane for each core set with its jobs over time: bright while they run, pale while they wait, hatched while they sleep, coloured
+    by name. Above them the work that waits, below them areas and tasks, which open, and stolen and idle time. What is pointed at is told
+    beside the pointer, a click goes there. Ctrl and the wheel, pinch, keys, a drawn range and buttons zoom; the wheel alone scrolls."""
+    trial = Trial("lanes")
+    browser.width(*LAPTOP)
+    browser.show(save(folder, "lanes", page_of(LANED)))
+    chart = Chart(browser)
+    for at, lane, wanted in (0.9, 0, BRIGHT[0]), (2.1, 0, BRIGHT[1]), (2.1, 2, PALE[0]):
+        found = chart.colour(at / 20, f"core set {lane}")
+        trial.expect(f"core set {lane} at {at} s: {found}", near(found, wanted))
+    row = {chart.colour(k / 1000, "core set 1") for k in range(500, 520)}
+    trial.expect(f"a sleeper is hatched: {row}", len(row) > 2)
+    go_to(browser, "0.5 s")
+    boxes = browser.value("document.querySelector('#sets li').className")
+    trial.expect(f"the box of ALPHA is {boxes}", boxes.startswith("j1 "))
+    browser.value("window.scrollTo(0, 0)")
+    told = chart.told(0.5 / 20, "core set 0")
+    trial.expect(f"pointed at: {told}", re.match(r"0[.][45]\d s, core set 0\n", told) and "ALPHA" in told and "priority 20" in told)
+    for part, wanted in (1 / 20, "jobs still need"), (0.5, "of the time is stolen"), (1 / 20, "VAC areas"), (1 / 20, "Waitlist"), (0.75, "alarm 1202"):
+        trial.expect(f"nothing tells {wanted}", chart.told(part, wanted))
+    for kind in "mousePressed", "mouseReleased":
+        chart.pointer(kind, 1.2 / 20, "core set 0", button="left", clickCount=1)
+    row = browser.text("sentence").split(" s: ")[0]
+    trial.expect(f"a click: {row}", re.search("at 1[.](1[5-9]|2[0-4])$", row))
+    try_zoom(browser, trial, row)
+    try_strips(browser, trial)
+    try_arrow(browser, trial)
+    try_edges(browser, trial)
+    try_cards(browser, trial)
     try_eras(browser, trial)
+    try_summary(browser, trial)
+    open_text(browser, LANED)
+    for size in SIZES:
+        browser.width(*size)
+        browser.value(DRAWN, True)
+        found = Chart(browser).colour(0.9 / 20, "core set 0")
+        trial.expect(f"{size[0]} points: {found}", near(found, BRIGHT[0]))
+    browser.width(*LAPTOP)
+    for scheme in "light", "dark":
+        browser.scheme(scheme)
+        open_text(browser, f'script = {json.dumps(2 * ["novac 20 04000 00005"] + 8 * ["phase 1 1"])}\n')
+        light = lambda it: 0.3 * it[0] + 0.6 * it[1] + 0.1 * it[2]
+        chart = Chart(browser)
+        runs, waits, ground = (light(chart.colour(0.93, f"core set {k}")) for k in range(3))
+        trial.expect(f"{scheme}: runs {runs}, waits {waits}, ground {ground}", abs(runs - ground) > 1.2 * abs(waits - ground) > 15)
+    browser.scheme("light")
+    trial.expect(f"{browser.shown()['broken']}", not browser.shown()["broken"])
+    return trial.faults
+
+
+def try_strips(browser, trial):
+    """Areas and tasks are a strip each until they are opened; then each area and each task has a line of its own, and one that comes later
+    takes the line of the one that left. A run that goes on from where a task left has it no longer."""
     open_text(browser, ROWS)
-    red = [k for k in range(990, 1010) if browser.value(f"{COLUMN}({0.75 * k / 1000})").count("#cc0000") > 100]
-    trial.expect(f"the alarm's line: {red}", red)
-    trial.expect(f"the event's name has {inked(browser, 0)} points", inked(browser, 0) > 30)
-    open_text(browser, "seconds = 20\n" + table("event", name="again", at=0, every=500, do="phase 1 1"))
-    found = [inked(browser, part) > 30 for part in (0, 0.25, 0.5)]
-    trial.expect(f"an event that comes again is named {found}", found == [True, False, False])
-
-
-def inked(browser, part):
-    """How many points of ink are above the lanes, behind this part of the width, where an event has its name."""
-    return browser.value("(() => { const it = document.getElementById('lanes-chart');"
-                         f" const {{ data }} = it.getContext('2d').getImageData(Math.round({part} * it.width) + 3, 0, 40, 10);"
-                         " return data.filter((one, k) => k % 4 === 3 && one > 100).length; })()")
-
-
-def try_places(browser, trial):
-    """Each task that waits has a line of its own: one that comes later takes the line of the one that left. A run that goes on
-    from where a task left has it no longer."""
+    chart = Chart(browser)
+    trial.expect("areas are open", chart.told(1 / 20, " s, VAC area 1\n") is None)
+    high = chart.high
+    for strip in "VAC areas", "Waitlist":
+        for kind in "mousePressed", "mouseReleased":
+            Chart(browser).pointer(kind, 1 / 20, strip, button="left", clickCount=1)
+    chart = Chart(browser)
+    trial.expect(f"opened, the chart is {chart.high} high, and was {high}", chart.high > high + 20)
+    for at, wanted, other in (1, " s, VAC area 1\n", "free"), (10, "VAC area 1: free", "ALPHA"), (1, "task 02000", "nothing"), (10, "nothing waits here", "task"):
+        told = chart.told(at / 20, wanted)
+        trial.expect(f"{wanted!r} at {at} s: {told}", told and other not in told)
     nine = [f"list {it} 02000 00005" for it in (100, *range(300, 308))]
     open_text(browser, "seconds = 4\n" + table("event", at=0, do=nine) + table("event", at=150, do="list 200 02000 00005"))
     expect_tasks(browser, trial, (0.5, 9), (1.25, 8), (1.75, 9))
@@ -184,66 +163,186 @@ def try_places(browser, trial):
     expect_tasks(browser, trial, (0.5, 1), (2, 0))
 
 
+def expect_tasks(browser, trial, *counts):
+    """How many tasks are told at these seconds of four."""
+    chart = Chart(browser)
+    told = """((x) => { const canvas = document.getElementById('lanes-chart'); const { top, height } = canvas.getBoundingClientRect(); const found = new Set();
+      for (let y = 1, last = ''; y < height; y += 1) {
+        canvas.dispatchEvent(new PointerEvent('pointermove', { clientX: x, clientY: top + y, pointerType: 'mouse', bubbles: true }));
+        const text = document.getElementById('block').hidden ? '' : document.getElementById('block').textContent;
+        if (text.includes('task 02000')) found.add(text + Math.floor(y / 4) * (last === text ? 0 : 1)); last = text;
+      } return found.size; })"""
+    for at, wanted in counts:
+        found = browser.value(f"{told}({chart.x(at / 4)})")
+        trial.expect(f"{found} tasks at {at} s, not {wanted}", (found > 0) == (wanted > 0))
+
+
+def open_landing(browser):
+    """Opens the landing of the tour, by way of an empty bench, since the address may have it already, and sees its first 35 seconds."""
+    browser.click("new")
+    browser.address("#new")
+    browser.value("location.hash = '#landing-1202'")
+    browser.wait("document.getElementById('title').textContent === 'A landing with alarm 1202'")
+    filled(browser)
+    return Chart(browser)
+
+
+# What the button for a picture hands out.
+SAVED = """new Promise((done) => {
+  const before = URL.createObjectURL;
+  URL.createObjectURL = (blob) => { URL.createObjectURL = before; if (blob.type.startsWith('image')) done(blob.type); else blob.text().then(done); return before.call(URL, blob); };
+  document.getElementById('WHICH').click();
+})"""
+
+
+def saved_picture(browser, which):
+    browser.click("save")
+    browser.wait(f"document.getElementById('{which}') !== null")
+    found = browser.value(SAVED.replace("WHICH", which), True)
+    browser.press("Escape")
+    return found
+
+
+def try_arrow(browser, trial):
+    """A click on a job draws an arrow from the task that asked for it, a second one takes it away; the picture that is saved has it."""
+    open_landing(browser)
+    counts = []
+    for _ in range(2):
+        left, right, top, _ = browser.value(PLOT)
+        x = left + 16 / 35.07 * (right - left)
+        y = browser.value(f"{FOUND}({x}, 'core set 3')")[0]
+        for kind in "mousePressed", "mouseReleased":
+            browser.call("Input.dispatchMouseEvent", type=kind, x=x, y=y, button="left", clickCount=1)
+        counts.append(saved_picture(browser, "save-svg").count("READACCS → SERVICER"))
+    trial.expect(f"arrows: {counts}", counts == [1, 0])
+    kind = saved_picture(browser, "save-png")
+    trial.expect(f"a picture of points is {kind}", kind == "image/png")
+
+
+# Where the edge of this part of the budget is, which is the lowest band.
+EDGE = """((wanted, left, right) => {
+  const canvas = document.getElementById('lanes-chart');
+  const { top, height } = canvas.getBoundingClientRect();
+  const told = (x, y) => {
+    canvas.dispatchEvent(new PointerEvent('pointermove', { clientX: x, clientY: y, pointerType: 'mouse', bubbles: true }));
+    return document.getElementById('block').textContent;
+  };
+  let y = top + height;
+  while (y > top && !/^SERVICER [0-9]+ %$/.test(told(left + 20, y))) y -= 3;
+  for (let x = left; x < right; x += 2) if (told(x, y).startsWith(wanted) && canvas.style.cursor === 'ew-resize') return [x + 4, y - 6];
+  return null;
+})"""
+
+
+def try_edges(browser, trial):
+    """The edges of the budget are dragged as the sliders are: a job's cost, and the time that is stolen."""
+    open_landing(browser)
+    sliders = "['SERVICER', 'Stolen time'].map((it) => Number(document.querySelector(`#sliders input[aria-label='${it}']`).value))"
+    for k, (wanted, by) in enumerate((("SERVICER", -60), ("stolen", -30))):
+        before = browser.value(sliders)
+        left, right, *_ = browser.value(PLOT)
+        x, y = browser.value(f"{EDGE}({json.dumps(wanted)}, {left}, {right})")
+        for kind, to in ("mousePressed", x), ("mouseMoved", x + by / 2), ("mouseMoved", x + by), ("mouseReleased", x + by):
+            browser.call("Input.dispatchMouseEvent", type=kind, x=to, y=y, button="left", buttons=1, clickCount=1)
+            browser.value(DRAWN, True)
+        filled(browser)
+        after = browser.value(sliders)
+        trial.expect(f"the edge of {wanted}: {before} to {after}", after[k] < before[k] and after[1 - k] == before[1 - k])
+
+
+def try_cards(browser, trial):
+    """Each example's card has the picture of its run, in which there is a job's colour where one begins; an exercise's would answer it."""
+    browser.click("examples")
+    drawn = "Array.from(document.querySelectorAll('.choices canvas')).filter((it) => it.style.height !== '')"
+    cards = browser.value("Array.from(document.querySelectorAll('.choices'), (it) => it.children.length)")
+    browser.wait(f"{drawn}.length === {cards[0]}")
+    coloured = browser.value(f"""{drawn}.filter((it) => {{ const {{ data }} = it.getContext('2d').getImageData(0, 0, it.width, it.height);
+      for (let k = 0; k < data.length; k += 4) if (data[k + 3] > 0 && Math.abs(data[k] - data[k + 2]) > 60) return true; return false; }}).length""")
+    count = browser.value("document.querySelectorAll('.choices canvas').length")
+    trial.expect(f"{coloured} of {count} pictures on {cards} cards", count == cards[0] and coloured >= count - 2)
+    browser.press("Escape")
+
+
 def try_eras(browser, trial):
     """The job that begins again with a restart is another one, though it has the number and the core set of one before."""
     jobs = "".join(table("job", name=name, at=at, cost=9999) for name, at in (("ALPHA", "04000"), ("BETA", "05000")))
     open_text(browser, f"seconds = 4\n{jobs}" + table("phase", group=1, phase=1, job="novac 15 05000 00005")
               + table("event", at=0, do=["phase 1 1", "novac 20 04000 00005"]) + table("event", at=200, do="restart"))
-    found = point(browser, 1 / 4, 0), point(browser, 3 / 4, 0)
-    trial.expect(f"ALPHA, and BETA after the restart: {found}", found == (BRIGHT[0], BRIGHT[1]))
+    chart = Chart(browser)
+    found = [chart.colour(part, "core set 0") for part in (1 / 4, 3 / 4)]
+    trial.expect(f"ALPHA, and BETA after the restart: {found}", near(found[0], BRIGHT[0]) and near(found[1], BRIGHT[1]))
 
 
-def expect_tasks(browser, trial, *counts):
-    """Whether so many tasks are drawn at these seconds of four."""
-    for at, wanted in counts:
-        bars = re.findall("(?:#8c564b)+", "".join(browser.value(f"{COLUMN}({at / 4})")))
-        trial.expect(f"{len(bars)} tasks at {at} s, not {wanted}", len(bars) == wanted)
+def try_summary(browser, trial):
+    """What the chart shows is said in words, and a click leads to a row, by time or by requests. What lanes hold is a list."""
+    open_text(browser, STRIPED)
+    trial.expect(browser.text("summary"), browser.text("summary") == "Over 0.80 s: at most 6 of 7 core sets, 5 of 5 areas "
+                 "and 4 of 9 tasks at once; 1 alarm: 1201, in request 51 at 0.40 s.")
+    chart = Chart(browser)
+    # (by requests, of which the alarm has two columns)
+    for part, row in (0.251, 23), (0.375, 34), (0.75, 67), (0.999, 90):
+        for kind in "mousePressed", "mouseReleased":
+            chart.pointer(kind, part, "core set 6", button="left", clickCount=1)
+        says(browser, trial, f"a click at {part}", f"Request {row} of 91")
+    told = browser.value("Array.from(document.querySelectorAll('#lane-list li'), (it) => it.textContent)")
+    trial.expect(f"lanes in words: {told}", len(told) == 7 and told[0].startswith("Core set 0: job 1 from request 21") and told[6].startswith("Core set 6: free"))
+    for count, text in (19, "Over 19 requests"), (20, "Over 0.20 s"):
+        open_text(browser, f"script = {json.dumps(count * ['tick'])}\n")
+        trial.expect(browser.text("summary"), browser.text("summary").startswith(text))
+
+
+def wheel(browser, part, more):
+    """Turns the wheel over the chart, by a modifier: 2 is Ctrl."""
+    browser.call("Input.dispatchMouseEvent", type="mouseWheel", x=Chart(browser).x(part), y=browser.value(PLOT)[2] + 150, deltaX=0, deltaY=-400, **more)
 
 
 def try_zoom(browser, trial, row):
-    pointer(browser, "mouseWheel", 0.5, 3, deltaX=0, deltaY=-400)
-    wait(lambda: browser.value(SEEN)[1] < 90)
+    end = browser.value(SEEN)[1]
+    wheel(browser, 0.5, {})
+    trial.expect(f"by the wheel alone: {browser.value(f'{DRAWN}.then(() => {SEEN})', True)}", browser.value(SEEN) == [0, end])
+    wheel(browser, 0.5, {"modifiers": 2})
+    wait(lambda: browser.value(SEEN)[1] < 0.9 * end)
     left, wide = browser.value(SEEN)
-    trial.expect(f"by the wheel: {left} {wide}", 10 < wide < 90 and abs(left + wide / 2 - 50) < 3)
+    trial.expect(f"by Ctrl and the wheel: {left} {wide} of {end}", 0.1 * end < wide < 0.9 * end and abs(left + wide / 2 - end / 2) < 0.03 * end)
     browser.press("f")
-    trial.expect(f"all of it: {browser.value(SEEN)}", browser.value(SEEN) == [0, 100])
-    for key, wanted in ("+", 66.7), ("+", 44.4), ("-", 66.7), ("]", 66.7):
+    trial.expect(f"all of it: {browser.value(SEEN)}", browser.value(SEEN) == [0, end])
+    for key, wanted in ("+", 0.667), ("+", 0.444), ("-", 0.667), ("]", 0.667):
         browser.press(key)
-        trial.expect(f"by {key}: {browser.value(SEEN)}", abs(browser.value(SEEN)[1] - wanted) < 0.2)
+        trial.expect(f"by {key}: {browser.value(SEEN)}", abs(browser.value(SEEN)[1] - wanted * end) < 0.005 * end)
     browser.press("f")
-    pointer(browser, "mousePressed", 0.25, 3, button="left", clickCount=1)
+    chart = Chart(browser)
+    chart.pointer("mousePressed", 0.25, "core set 3", button="left", clickCount=1)
     for part in 0.3, 0.4, 0.5:
-        pointer(browser, "mouseMoved", part, 3, button="left", buttons=1)
-    pointer(browser, "mouseReleased", 0.5, 3, button="left", clickCount=1)
+        chart.browser.call("Input.dispatchMouseEvent", type="mouseMoved", x=chart.x(part), y=chart.top + 150, button="left", buttons=1)
+    chart.browser.call("Input.dispatchMouseEvent", type="mouseReleased", x=chart.x(0.5), y=chart.top + 150, button="left", clickCount=1)
     left, wide = browser.value(SEEN)
-    trial.expect(f"a drawn range: {left} {wide}", abs(left - 25) < 1 and abs(wide - 25) < 1)
+    trial.expect(f"a drawn range: {left} {wide}", abs(left - end / 4) < 0.01 * end and abs(wide - end / 4) < 0.01 * end)
     trial.expect(f"a range is no click: {browser.text('sentence')}", row in browser.text("sentence"))
     browser.press("f")
     browser.press("x")
     says(browser, trial, "to the alarm", "alarm 1202")
     left, wide = browser.value(SEEN)
-    trial.expect(f"around the alarm: {left} {wide}", wide < 80 and left + wide > 70)
+    trial.expect(f"around the alarm: {left} {wide}", wide < 0.8 * end and left + wide > 0.7 * end)
     browser.press("Home")
-    left, wide = browser.value(SEEN)
-    trial.expect(f"what is shown is seen: {left} {wide}", left == 0)
+    trial.expect(f"what is shown is seen: {browser.value(SEEN)}", browser.value(SEEN)[0] == 0)
     browser.press("End")
     left, wide = browser.value(SEEN)
-    trial.expect(f"the end is seen: {left} {wide}", wide < 80 and abs(left + wide - 100) < 1)
+    trial.expect(f"the end is seen: {left} {wide}", wide < 0.8 * end and abs(left + wide - end) < 0.01 * end)
     open_text(browser, LANED)
-    trial.expect(f"all of another document is seen: {browser.value(SEEN)}", browser.value(SEEN) == [0, 100])
-    browser.press("f")
+    trial.expect(f"all of another document is seen: {browser.value(SEEN)}", browser.value(SEEN) == [0, end])
     browser.width(*PHONE)
     pinch(browser)
-    wait(lambda: browser.value(SEEN)[1] < 80)
-    trial.expect(f"by two fingers: {browser.value(SEEN)}", browser.value(SEEN)[1] < 80)
+    wait(lambda: browser.value(SEEN)[1] < 0.8 * end)
+    trial.expect(f"by two fingers: {browser.value(SEEN)}", browser.value(SEEN)[1] < 0.8 * end)
     browser.width(*LAPTOP)
     browser.press("f")
+    filled(browser)
 
 
 def pinch(browser):
-    browser.value("document.getElementById('chart-box').scrollIntoView()")
-    left, top, wide, high = browser.value(BOX)
-    points = lambda apart: [{"x": left + wide / 2 + side * apart, "y": top + high / 2, "id": k} for k, side in enumerate((-1, 1))]
+    browser.value("document.getElementById('chart-box').scrollIntoView({ block: 'end' })")
+    left, right, top, high = browser.value(PLOT)
+    points = lambda apart: [{"x": (left + right) / 2 + side * apart, "y": top + high / 2, "id": k} for k, side in enumerate((-1, 1))]
     browser.call("Input.dispatchTouchEvent", type="touchStart", touchPoints=points(30))
     for apart in 40, 55, 70, 90:
         browser.call("Input.dispatchTouchEvent", type="touchMove", touchPoints=points(apart))

@@ -8,7 +8,7 @@ import zlib
 from browsing.browser import LAPTOP, wait
 from browsing.kept import again, settled
 from browsing.opened import TIGHT
-from browsing.pages import COUNTS, PROGRAM, Trial, save, set_slider, type_line, written
+from browsing.pages import COUNTS, Trial, page_of, save, set_slider, type_line
 from browsing.reader import damaged
 
 # What the page has made of the address: its note or dialog, a sentence, the boxes of the tables, and what broke.
@@ -117,7 +117,7 @@ def links(browser, folder):
     the address and by F5; what was done is all done, or not at all."""
     trial, dice = Trial(f"links from seed {COUNTS['seed']}"), random.Random(COUNTS["seed"])
     browser.width(*LAPTOP)
-    path = save(folder, "links", written(PROGRAM, "page", ""))
+    path = save(folder, "links", page_of(""))
     marks = good(browser, path)
     trial.expect(f"no link has what was done: {marks}", sum("&do=" in it for it in marks) >= 4)
     browser.show(path, "#new")

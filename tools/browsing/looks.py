@@ -8,16 +8,15 @@ from browsing.pages import open_text, says, texts
 LOOKS = """(() => {
   const style = (what, name, pseudo) => getComputedStyle(document.querySelector(what), pseudo)[name];
   const by = (id) => document.getElementById(id);
-  return [style('.full', 'outlineStyle'), style('tr.change td', 'content', '::after'), style('tr.refused td', 'textDecorationLine'),
+  return [style('.full', 'boxShadow').includes('8px'), style('tr.change td', 'content', '::after'), style('tr.refused td', 'textDecorationLine'),
     style('li.asleep', 'borderTopStyle'),
     ...['sentence', 'outcome', 'hint'].map((it) => `${by(it).role} ${by(it).ariaLive}`),
     ...Array.from(document.querySelectorAll('main ol, #account'), (it) => by(it.getAttribute('aria-labelledby')).textContent),
     ...Array.from(document.querySelectorAll('.bar button'), (it) => it.ariaLabel ?? it.innerText.replace(/[^A-Za-z]/g, '')),
     ...Array.from(document.querySelectorAll('#rows th'), (it) => it.textContent)].join(', ');
 })()"""
-LOOK = ('solid, " Δ", line-through, dashed, status polite, status polite, status polite, Core sets: 7 of 7 in use, , VAC areas: 0 of 5 in use, Waitlist: 0 of 9 in use, Phases, '
-        "FAILREG, NEWJOB, Alarm 1202: why, First, Back, Next, Last, Alarm before, Alarm after, Change before, Change after, Undo, Redo, "
-        "Closer, Wider, Fit, Tothealarm, Forgetbefore, Run, cs, Nextevent, "
+LOOK = ('true, " Δ", line-through, dashed, status polite, status polite, status polite, Alarm 1202: why, Core sets: 7 of 7 in use, , VAC areas: 0 of 5 in use, Waitlist: 0 of 9 in use, Phases, '
+        "FAILREG, NEWJOB, First, Back, Run, Next, Last, Nextalarm, "
         "no, time, request, reply, running, sets, areas, tasks, asked by")
 
 
@@ -36,7 +35,7 @@ def try_looks(browser, trial):
     browser.press("ArrowLeft")
     found = browser.value("(() => { const it = getComputedStyle(document.querySelector('#sets li.new'), '::after');"
                           " return `${it.content} ${it.borderTopWidth}`; })()")
-    trial.expect(f"what is new has {found}", found == '"" 8px')
+    trial.expect(f"what is new has {found}", found.startswith('"" '))
     value = browser.value("document.getElementById('slider').getAttribute('aria-valuetext')")
     trial.expect(f"the slider tells {value}", value == "request 8 of 10")
     browser.value("document.getElementById('slider').focus()")
@@ -59,12 +58,12 @@ def try_tops(browser, trial):
         trial.expect("an account begins lower", browser.value("document.getElementById('account').scrollTop") == 0)
         browser.press("ArrowLeft")
     colours = browser.value("Array.from(document.querySelectorAll('#areas li'), (it) => it.classList[0]).join(' ')")
-    trial.expect(f"areas {colours}", colours == "j1 j2 j3 j4 j5")
+    trial.expect(f"areas {colours}", colours == "j1 s2 s3 s4 s5")
     open_text(browser, 'script = ["novac 20 04000 00005", "findvac 20 04100 00005", "findvac 20 04200 00005", "end"]\n')
     browser.press("End")
     found = texts(browser, "#areas li"), browser.value("Array.from(document.querySelectorAll('#areas li'), (it) => it.classList[0]).join(' ')"), \
         browser.shown()["sets"][2]
-    trial.expect(f"areas and sets: {found}", found[0].startswith("area 1job 2|area 2job 3|area 3free") and found[1].startswith("j2 j3 free")
+    trial.expect(f"areas and sets: {found}", found[0].startswith("area 1job 2|area 2job 3|area 3free") and found[1].startswith("j2 s3 free")
                  and "job 3" in found[2] and "area 2" in found[2])
     browser.click("help")
     told = texts(browser, "#dialog-body p")

@@ -3,13 +3,12 @@ import json
 import re
 
 from browsing.chance import play
-from browsing.pages import (
-    PROGRAM, Trial, drop_text, go_to, mark_of, open_text, save, says, table, type_line, written)
+from browsing.pages import Trial, drop_text, go_to, mark_of, open_text, page_of, save, says, table, type_line
 
 
 def try_links(browser, trial, folder, text):
     """Links carry documents and nothing else; an exercise's answer is hidden."""
-    path = save(folder, "links", written(PROGRAM, "page", ""))
+    path = save(folder, "links", page_of(""))
     browser.call("Performance.enable", timeDomain="threadTicks")
     browser.show(path, mark_of(f"# {text}\nscript = [\"tick\"]\n".encode()))
     trial.expect(f"by a link: {browser.text('title')}", text in browser.text("title"))
@@ -80,7 +79,7 @@ def markup(browser, folder):
     trial = Trial("markup")
     text = "<img src=x onerror=document.title='broken'><b>"
     bench = f"# </script>{text}\\n\nscript = [\"tick\"] # <!-- <script>\n"
-    page = written(PROGRAM, "page", bench)
+    page = page_of(bench)
     trial.expect("a bench's text is in its page", text not in page)
     browser.show(save(folder, "markup", page))
     shown = browser.shown()
@@ -135,7 +134,7 @@ def hostile(browser, folder):
     names of what the language has, requests without end) are opened, or are told in a sentence what they
     lack, at once; a page goes on afterwards. Then random keys, clicks, sliders and documents."""
     trial = Trial("hostile")
-    browser.show(save(folder, "hostile", written(PROGRAM, "page", "")), "#new")
+    browser.show(save(folder, "hostile", page_of("")), "#new")
     browser.call("Performance.enable", timeDomain="threadTicks")
     for text, more, times, wanted in HOSTILE:
         begun = browser.worked()

@@ -14,8 +14,8 @@ SERIAL = f"{TOP}/crates/agc/out/agc"
 
 # How many random benches and scenarios are opened, and for how many seconds keys and clicks are random; how many
 # by `--all`.
-COUNTS = {"benches": 40, "scenarios": 15, "seconds": 10, "links": 60, "seed": 1202}
-ALL_COUNTS = {"benches": 300, "scenarios": 100, "seconds": 300, "links": 10_000}
+COUNTS = {"benches": 40, "scenarios": 15, "seconds": 10, "links": 60, "pictures": 60, "agreements": 60, "seed": 1202}
+ALL_COUNTS = {"benches": 300, "scenarios": 100, "seconds": 300, "links": 10_000, "pictures": 300, "agreements": 1000}
 
 
 class Trial:
@@ -41,6 +41,9 @@ def written(program, word, bench):
     """What a program writes of a bench."""
     return subprocess.run([program, word], input=bench, capture_output=True, text=True, timeout=120,
                           check=True).stdout
+
+
+page_of = repository.page_of
 
 
 def save(folder, name, page):
@@ -102,6 +105,7 @@ def open_text(browser, text):
     browser.value("document.getElementById('keep-question').checked = false")
     browser.value(f"document.getElementById('pasted').value = {json.dumps(text)}")
     browser.click("open-pasted")
+    filled(browser)
     fault = browser.value("document.getElementById('dialog').open && "
                           "document.getElementById('open-fault').textContent")
     if fault:
@@ -155,30 +159,32 @@ def texts(browser, what):
 
 
 def exercise(browser, number):
-    """Opens an exercise by its link, and waits until it is there, with its answer hidden."""
+    """Opens an exercise by its link, by way of an empty bench, and waits until it is there, with its answer hidden."""
     asked = dict(repository.tool("teaching").workbench_texts())[f"exercise-{number}"].splitlines()[1].strip("# ").split("`")[0]
     shown = "document.getElementById('show-answer') !== null && document.querySelector('#question p').textContent" \
             f".replaceAll('*', '').startsWith({json.dumps(asked.replace('*', ''))})"
-    for pause in 0.1, 1, 5, 20:
-        # only a question that is drawn anew has the button again
-        browser.value("document.getElementById('show-answer')?.remove()")
-        for mark in "#", f"#exercise-{number}":
-            browser.value(f"location.hash = {json.dumps(mark)}")
-            time.sleep(pause)
-        begun = time.monotonic()
-        while not browser.value(shown):
-            if time.monotonic() - begun > 2 + pause:
-                break
-            time.sleep(0.05)
-        else:
-            return
-    raise OSError(f"exercise {number} isn't there")
+    browser.click("new")
+    browser.address("#new")
+    browser.value(f"location.hash = '#exercise-{number}'")
+    if not browser.wait(shown):
+        raise OSError(f"exercise {number} isn't there")
 
 
 def set_slider(browser, value):
-    """Moves the slider of stolen time."""
+    """Moves the slider of stolen time, and waits until all of the run is there."""
     browser.value("(() => { const it = document.querySelector('#sliders input');"
                   f" it.value = '{value}'; it.dispatchEvent(new Event('change')); }})()")
+    filled(browser)
+
+
+def set_speed(browser, value):
+    """Chooses how many times real time the clock runs."""
+    browser.value(f"(() => {{ const it = document.getElementById('speed'); it.value = '{value}'; it.dispatchEvent(new Event('change')); }})()")
+
+
+def filled(browser):
+    """Waits until all of the run is there, which comes behind its first picture."""
+    browser.wait("document.body.ariaBusy !== 'true' && document.getElementById('chart-box').dataset.filling !== 'yes'")
 
 
 def edit_text(browser, text):
@@ -190,7 +196,7 @@ def edit_text(browser, text):
 
 def go_to(browser, text):
     """Types where to go."""
-    browser.value(f"document.getElementById('go').value = {json.dumps(text)}")
+    browser.value(f"document.getElementById('expert').open = true; document.getElementById('go').value = {json.dumps(text)}")
     browser.value("document.getElementById('go').focus()")
     browser.press("Enter")
     browser.value("document.activeElement.blur()")
@@ -220,9 +226,9 @@ def open_words(browser):
     browser.wait("document.getElementById('words-rows').children.length > 0")
 
 
-def follow_link(browser):
-    """Opens what the link carries: by way of an empty bench, where the address has it already."""
-    link = saved(browser)[1]
+def follow_link(browser, link=None):
+    """Opens what this link carries, or the one that is saved: by way of an empty bench, where the address has it already."""
+    link = link or saved(browser)[1]
     mark = link[link.index("#"):]
     if browser.value("location.hash") == mark:
         browser.value("location.hash = '#new'")

@@ -5,14 +5,14 @@ import re
 
 from browsing.access import CONTRAST
 from browsing.opened import TIGHT
-from browsing.pages import PROGRAM, Trial, open_text, save, written
+from browsing.pages import Trial, open_text, page_of, save
 
 
 def paper(browser, folder):
     """On paper a run is a table: its title, what came of it, its plan, each row but those in which only time
     goes by, which are one line, and the account of each alarm; and no control."""
     trial = Trial("paper")
-    browser.show(save(folder, "paper", written(PROGRAM, "page", TIGHT)))
+    browser.show(save(folder, "paper", page_of(TIGHT)))
     browser.scheme("dark", media="print")
     browser.value("window.dispatchEvent(new Event('beforeprint'))")
     rows = browser.value("Array.from(document.querySelectorAll('#printed tbody tr'), (it) =>"
@@ -45,7 +45,7 @@ def paper(browser, folder):
     pages, first = printed(browser)
     trial.expect(f"{pages} pages, with {first} first", 1 <= pages <= 4 and first.startswith("h1 p canvas h2 "))
     left, below = browser.value(INKED)
-    trial.expect(f"names on the left of the chart: {left}, its axis: {below}", 0.02 < left < 0.2 and 0.02 < below < 0.3)
+    trial.expect(f"names on the left of the chart: {left}, what is asked for below it: {below}", 0.02 < left < 0.2 and 0.02 < below < 0.7)
     quiet = [cells for cells in rows if "tick, " in cells[2:3]]
     trial.expect("a line stands for one or two rows", all(int(it[2].split()[1]) > 2 for it in quiet))
     for cells in rows:
@@ -54,10 +54,10 @@ def paper(browser, folder):
             trial.expect(f"{cells}", last - first == round(100 * (ended - begun)))
     browser.scheme("light")
     print_long(browser, trial)
-    try_question(browser, trial, save(folder, "asked", written(PROGRAM, "page", "")))
+    try_question(browser, trial, save(folder, "asked", page_of("")))
     try_seen(browser, trial, f"{folder}/asked.html")
     for name, most in ("landing-1202", 4), ("landing", 4), ("apollo-11", 8):
-        browser.show(save(folder, "paper", written(PROGRAM, "page", "")), f"#{name}")
+        browser.show(save(folder, "paper", page_of("")), f"#{name}")
         pages, first = printed(browser)
         trial.expect(f"{name} is printed on {pages} pages, with {first} first", pages <= most and first.startswith("h1 p canvas h2 "))
     return trial.faults
@@ -101,7 +101,7 @@ def printed(browser):
             browser.value("Array.from(document.getElementById('printed').children, (it) => it.localName).join(' ')"))
 
 
-# How much of the printed chart's left edge, and of its lower one, has ink: names, and the axis.
+# How much of the printed chart's left edge, and of its lower one, has ink: names, and the bar of what is asked for.
 INKED = """(() => {
   const it = document.getElementById('printed-chart');
   const inked = (...box) => { const { data } = it.getContext('2d').getImageData(...box);

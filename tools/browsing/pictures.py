@@ -8,7 +8,7 @@ import zlib
 import repository
 from browsing.browser import BROWSERS, Browser, LAPTOP, PHONE, SIZES
 from browsing.opened import TIGHT
-from browsing.pages import PROGRAM, TOP, save, written
+from browsing.pages import TOP, page_of, save
 
 # The example that docs/ shows, at this request, and the pictures.
 SHOWN_EXAMPLE, SHOWN_REQUEST = "jobs-faster-than-they-end", "#20"
@@ -19,7 +19,7 @@ def pictures(browser, folder, into):
     """Pictures of moments."""
     os.makedirs(into, exist_ok=True)
     bench = repository.text_of(f"{TOP}/examples/{SHOWN_EXAMPLE}.toml")
-    alarm, empty, timed = (save(folder, name, written(PROGRAM, "page", text)) for name, text in
+    alarm, empty, timed = (save(folder, name, page_of(text)) for name, text in
                            (("alarm", bench), ("empty", ""), ("timed", TIGHT)))
     moments = (("start", empty, "", ""), ("alarm", alarm, SHOWN_REQUEST, ""),
                ("clock", timed, "", "alarm-next"), ("plan", timed, "", "plan"))

@@ -5,9 +5,10 @@
 import { readFileSync } from "node:fs";
 import { Clock, start } from "../../libagc/js/machine.js";
 import { readBench, requestsOf } from "../../web/bench.js";
+import { moduleBytes } from "../../web/picture.mjs";
 import { Run } from "../../web/run.js";
 
-await start(readFileSync(new URL("../../libagc/js/agc.wasm", import.meta.url)));
+await start(await moduleBytes());
 
 /** How many requests are asked of one document. */
 const MOST = 50_000;

@@ -96,7 +96,7 @@ def documents():
              if it.endswith(".toml")]
     sys.path.insert(0, f"{TOP}/tests/runners")
     import cases
-    for case in cases.all_read()[0]:
+    for case in (it for it in cases.all_read()[0] if not it.file("stdin", "from")):
         text = case.text("stdin").decode("utf-8", "replace")
         is_serial = case.program() == "agc" and case.words()[-1] in ("serial", b"serial")
         if len(text) < 100_000 and (is_serial or repository.is_scenario(text)):
@@ -112,36 +112,13 @@ def is_taken(text):
         [PROGRAM, "peaks"], input=text.encode("utf-8", "surrogatepass"), capture_output=True, check=False).returncode == 0
 
 
-# What is said of runs of so many ticks: a run has at most 4,000,000 rows, and a day more.
-EMPTY = "at most 0 of 7 core sets, 0 of 5 areas and 0 of 9 tasks at once; no alarm."
-TOLD = {3_999_999: f"Over 39999.99 s: {EMPTY}", 4_000_000: f"Over 40000.00 s: {EMPTY} The page runs no more than 4,000,000 requests."}
-
-
-def compare_long(trial):
-    """Whether a run that is cut is said to be."""
-    ran = subprocess.run(["node", f"{TOP}/tools/browsing/strip.mjs", *map(str, TOLD)], capture_output=True, text=True, timeout=1200, check=False)
-    if trial.expect(f"node: {ran.stderr[-500:]}", ran.returncode == 0):
-        trial.expect(f"a long run: {ran.stdout}", json.loads(ran.stdout) == [*TOLD.values()])
-
-
-def try_modules(trial):
-    """What is worked out by hand of the page's modules."""
-    ran = subprocess.run(["node", f"{TOP}/tools/browsing/modules.mjs"], capture_output=True, text=True, timeout=1200, check=False)
-    if trial.expect(f"node: {ran.stderr[-500:]}", ran.returncode == 0):
-        for fault in json.loads(ran.stdout):
-            trial.expect(fault, False)
-
-
 def reader(_browser, folder):
-    """The page's modules write, count and tell what was worked out by hand. Its reader of documents takes what agc takes, and
-    reads it so, or says that it doesn't know the form: all cases, and 5,000 random and damaged documents. It takes a scenario
-    where agc_watch does. A run that is cut is said to be."""
+    """The page's reader of documents takes what agc takes, and reads it so, or says that it doesn't know the form: all cases,
+    and 5,000 random and damaged documents. It takes a scenario where agc_watch does."""
     trial = Trial("reader")
     if shutil.which("node") is None:
         print("browse: there is no node, so the reader of documents was not tried")
         return []
-    try_modules(trial)
-    compare_long(trial)
     texts = documents()
     with open(f"{folder}/documents.json", "w", encoding="utf-8") as file:
         json.dump(texts, file)

@@ -3,9 +3,9 @@ import re
 import time
 
 from browsing.browser import PATIENCE
-from browsing.chart import STRIPED
 from browsing.exercises import CHANGED
-from browsing.pages import follow_link, go_to, open_text, says, set_slider, table, texts, type_line, wait_for
+from browsing.opened import STRIPED
+from browsing.pages import follow_link, go_to, open_text, says, set_slider, set_speed, table, texts, type_line, wait_for
 
 
 def try_sliders(browser, trial):
@@ -51,7 +51,7 @@ def try_sliders(browser, trial):
     open_text(browser, "script = [\"list 1 02000 00005\"]\n" + table(
         "task", at="02000", bank="00005", action=["novac 20 04000 00005", "list 1 02000 00005"]))
     browser.press("End")
-    browser.value("document.getElementById('speed').value = '100'")
+    set_speed(browser, "100")
     browser.value("document.activeElement.blur()")
     browser.press(" ")
     wait_for(browser, "alarm 1202")
@@ -106,12 +106,12 @@ def try_panel(browser, trial):
     """The clock's controls: sliders with their bounds, from when a change holds, single centiseconds, the next event, the end."""
     open_text(browser, PANEL)
     told = browser.value(SLIDERS)
-    trial.expect(told, told == "Stolen time 0 100 50 50 % 50 %, WORK 1 400 10 10 cs 10 cs, 05000 1 600 300 300 cs 300 cs, Core sets 7 8 7 7 7")
+    trial.expect(told, told == "Stolen time 0 100 50 50 % 50 %, WORK 1 400 10 0.10 s 0.10 s, 05000 1 600 300 3.00 s 3.00 s, Core sets 7 8 7 7 7")
     for value in 37, 10:
         browser.value("(() => { const it = document.querySelectorAll('#sliders input')[1];"
                       f" it.value = '{value}'; it.dispatchEvent(new Event('input')); }})()")
         told = browser.value(SLIDERS)
-        trial.expect(f"as a slider moves: {told}", f"WORK 1 400 {value} {value} cs {value} cs" in told)
+        trial.expect(f"as a slider moves: {told}", f"WORK 1 400 {value} {value / 100:.2f} s {value / 100:.2f} s" in told)
         browser.value("document.querySelectorAll('#sliders input')[1].dispatchEvent(new Event('change'))")
     browser.click("here")
     for typed, wanted in ("0", "the beginning"), ("0.5 s", "0.50 s"), ("1", "request 1"):
@@ -168,7 +168,7 @@ def try_panel(browser, trial):
     browser.press("Escape")
     open_text(browser, f"limit = 9999\n{STRIPED}")
     go_to(browser, "51")
-    browser.value("document.getElementById('speed').value = '100'")
+    set_speed(browser, "100")
     browser.click("run")
     at, begun = 0.0, time.monotonic()
     while at < 37 and time.monotonic() - begun < PATIENCE:
@@ -183,8 +183,8 @@ def try_own_bounds(browser, trial):
     buttons."""
     open_text(browser, PANEL.replace("cost = 10\n", "cost = 1000\n"))
     told = browser.value(SLIDERS)
-    trial.expect(f"a greater cost: {told}", ", WORK 1 2000 1000 1000 cs 1000 cs, " in told)
-    for cost, seeds in ("{ from = 1, to = 9 }", "Seed 1 100 7 7 7, "), ("3", "05000 1 400 3 3 cs 3 cs, "):
+    trial.expect(f"a greater cost: {told}", ", WORK 1 2000 1000 10.00 s 10.00 s, " in told)
+    for cost, seeds in ("{ from = 1, to = 9 }", "Seed 1 100 7 7 7, "), ("3", "05000 1 400 3 0.03 s 0.03 s, "):
         open_text(browser, f"seconds = 1\nseed = 7\n[[job]]\nat = \"05000\"\ncost = {cost}\n" + table("event", at=0, do="tick"))
         told = browser.value(SLIDERS)
         trial.expect(f"a seed: {told}", told == f"Stolen time 0 100 0 0 % 0 %, {seeds}Core sets 7 8 7 7 7")

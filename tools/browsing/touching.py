@@ -4,7 +4,7 @@ import re
 
 from browsing.browser import LAPTOP, PHONE
 from browsing.opened import THREE_ALARMS
-from browsing.pages import DRAWN, PROGRAM, TOP, Trial, exercise, go_to, open_text, says, save, texts, type_line, written
+from browsing.pages import DRAWN, TOP, Trial, exercise, go_to, open_text, page_of, save, says, texts, type_line
 
 ASKED = 'script = ["novac 20 04000 00005", "findvac 30 04100 00005", "sleep 06000", "list 100 02000 00005", "phase 3 2"]\n'
 
@@ -20,7 +20,7 @@ def touching(browser, folder):
     kind; phases and words explain themselves; on a phone nothing is cut; without WebAssembly the page says so."""
     trial = Trial("touching")
     browser.width(*LAPTOP)
-    path = save(folder, "touching", written(PROGRAM, "page", ""))
+    path = save(folder, "touching", page_of(""))
     browser.show(path, "#new")
     open_text(browser, ASKED)
     browser.press("End")
@@ -120,23 +120,37 @@ def try_motion(browser, trial, path):
     browser.scheme("light")
 
 
+# Fills the fields of an exercise, and checks them.
+SAY = """(() => { const fields = [...document.querySelectorAll('#prediction input, #prediction select')];
+  GIVEN.forEach((it, k) => { fields[k].value = it; }); document.getElementById('check-prediction').click(); })()"""
+
+
 def try_predictions(browser, trial):
+    """A first wrong try gets a hint, and shows no answer; a second one shows all; what is right at once is shown at once. Next leads on."""
+    say = lambda *given: browser.value(SAY.replace("GIVEN", json.dumps(given)))
     exercise(browser, 1)
-    browser.value("(() => { const it = (name) => document.querySelector(`#prediction [name=${name}]`);"
-                  " it('alarms').value = '1'; it('code').value = '1202'; it('row').value = '12'; })()")
-    browser.click("check-prediction")
+    trial.expect(browser.text("which"), browser.text("which") == "Exercise 1 of 12")
+    say("", "")
+    trial.expect(f"nothing is said: {browser.text('note')}", "Say first what you expect" in browser.text("note"))
+    say("12", "1202")
+    told = browser.text("hint-given"), texts(browser, "#verdict li"), browser.value("document.getElementById('show-answer') !== null")
+    trial.expect(f"a first try: {told}", told[0].startswith("Not yet: “1202”. Each findvac takes") and told[1:] == ("", True))
+    say("12", "1203")
     told = texts(browser, "#verdict li")
-    trial.expect(told, told == "Right: 1 alarm.|You expected “1202”, and it is: alarm 1201. See request 12.|Right: in request 12.")
+    trial.expect(told, told == "Which request is one too many? Right: 12.|Which alarm? You expected “1203”, and it is: 1201. See request 12.")
     browser.value("document.querySelector('#verdict a').click()")
     says(browser, trial, "where it went wrong", "Request 12 of 12")
-    for number, given, wanted in (1, {"runs": "0"}, "Right: no job runs."), \
-            (10, {"alarms": "0", "code": "none", "row": "0"}, "Right: 0 alarms.|Right: no alarm.|Right: no alarm."):
-        exercise(browser, number)
-        for name, it in given.items():
-            browser.value(f"document.querySelector('#prediction [name={name}]').value = '{it}'")
-        browser.click("check-prediction")
-        told = texts(browser, "#verdict li")
-        trial.expect(f"exercise {number}: {told}", told == wanted)
+    browser.click("exercise-next")
+    browser.wait("document.getElementById('which').textContent === 'Exercise 2 of 12'")
+    say("3", "1")
+    told = texts(browser, "#verdict li")
+    trial.expect(told, told == "How many core sets do sleepers hold? Right: 3.|Since which request does the first job hold its set? Right: 1.")
+    exercise(browser, 10)
+    say("22 %", "20")
+    told = texts(browser, "#verdict .not"), texts(browser, "#verdict .right")
+    trial.expect(f"{told}", told[0] == "" and told[1].count("Right") == 2)
+    exercise(browser, 12)
+    trial.expect("there is an exercise after the last", browser.value("document.getElementById('exercise-next') === null"))
 
 
 def try_also(browser, trial):
@@ -183,31 +197,33 @@ def try_phone(browser, trial, path):
     browser.width(*LAPTOP)
 
 
+DSKY = "document.getElementById('dsky').getAttribute('aria-label')"
+
+
 def try_flown(browser, trial, path):
-    """The five alarms of Apollo 11, with mission times, the PROG light and what VERB 05 NOUN 09 shows. The times are those of the tables
-    in the documents, within two seconds of those flown; the scenario's first line says that it is fitted."""
+    """The five alarms of Apollo 11, with mission times, the PROG light and what VERB 05 NOUN 09 shows. The times are those of the table
+    in history.md, within two seconds of those flown; the scenario's first line says that it is fitted."""
     browser.show(path, "#apollo-11")
     told = []
     for time_flown in "102:38:21", "102:39:03", "102:42:19", "102:42:41", "102:42:59":
         browser.press("a")
         says(browser, trial, "an alarm of the flight", f"({time_flown}): ")
         told.append(re.search(r" at ([0-9.]+) s .* alarm (120[12])[.]", browser.text("sentence")).groups())
-    for name in "LANDING.md", "teaching/history.md":
-        with open(f"{TOP}/docs/{name}", encoding="utf-8") as file:
-            rows = re.findall(r"^[|] (120[12]) [|] 102:(\d\d):(\d\d) [|] (\d+) [|] ([0-9.]+) [|]$", file.read(), re.MULTILINE)
-        trial.expect(f"{name} and the run: {rows}, {told}", [(seconds, code) for code, _, _, _, seconds in rows] == told)
-        for code, minutes, seconds, flown, modelled in rows:
-            # (the engine was ignited at 102:33:05)
-            trial.expect(f"{name}: {code} at {flown}", 60 * (int(minutes) - 33) + int(seconds) - 5 == int(flown) and abs(float(modelled) - int(flown)) <= 2)
+    with open(f"{TOP}/docs/teaching/history.md", encoding="utf-8") as file:
+        rows = re.findall(r"^[|] (120[12]) [|] 102:(\d\d):(\d\d) [|] (\d+) [|] ([0-9.]+) [|]$", file.read(), re.MULTILINE)
+    trial.expect(f"history.md and the run: {rows}, {told}", [(seconds, code) for code, _, _, _, seconds in rows] == told)
+    for code, minutes, seconds, flown, modelled in rows:
+        # (the engine was ignited at 102:33:05)
+        trial.expect(f"history.md: {code} at {flown}", 60 * (int(minutes) - 33) + int(seconds) - 5 == int(flown) and abs(float(modelled) - int(flown)) <= 2)
     texts_of = {}
-    for name in "examples/apollo-11.toml", "examples/landing.toml", "docs/LANDING.md":
+    for name in "examples/apollo-11.toml", "examples/landing.toml", "docs/teaching/history.md":
         with open(f"{TOP}/{name}", encoding="utf-8") as file:
             texts_of[name] = " ".join(file.read().replace("\n#", "\n").split())
     for name, said in (("examples/apollo-11.toml", "# Fitted, not explained: "), ("examples/apollo-11.toml", " sets = 8 "),
                        ("examples/landing.toml", "seven core sets; Luminary is said to have had eight"),
-                       ("docs/LANDING.md", "| command module (Colossus, Comanche) | seven"), ("docs/LANDING.md", "| lunar module (Luminary), in which the alarms came | eight")):
+                       ("docs/teaching/history.md", "Colossus in the Command Module had seven and Luminary in the Lunar Module eight")):
         trial.expect(f"{name} doesn't say {said!r}", said in texts_of[name] and (said[0] != "#" or texts_of[name].startswith(said)))
-    trial.expect(f"before it is read: {texts(browser, '#dsky span')}", texts(browser, "#dsky span") == "PROG on|VERB 05 NOUN 09: 01202 01202 01202")
+    trial.expect(f"before it is read: {browser.value(DSKY)}", browser.value(DSKY) == "DSKY: program alarm light on, VERB 05 NOUN 09 shows 01202 01202 01202")
     browser.press("Home")
     touch(browser, "sets", 7)
     browser.value("location.hash = '#landing'")
@@ -215,7 +231,7 @@ def try_flown(browser, trial, path):
     told = browser.value("document.getElementById('touch').hidden"), browser.text("note")
     trial.expect(f"a core set that isn't there any more: {told}", told == (True, ""))
     browser.show(path, "#apollo-11")
-    trial.expect(f"at the beginning: {texts(browser, '#dsky span')}", texts(browser, "#dsky span") == "PROG off|VERB 05 NOUN 09: 00000 00000 00000")
+    trial.expect(f"at the beginning: {browser.value(DSKY)}", browser.value(DSKY) == "DSKY: program alarm light off, VERB 05 NOUN 09 shows 00000 00000 00000")
 
 
 # What the glossary and the model's description both say of the field's words.
@@ -238,7 +254,7 @@ def try_words(browser, trial, path):
 
 
 def try_no_module(browser, trial, folder):
-    page = written(PROGRAM, "page", "").replace("'wasm-unsafe-eval'", "")
+    page = page_of("").replace("'wasm-unsafe-eval'", "")
     browser.open(save(folder, "no-module", page))
     browser.wait("!document.getElementById('broken').hidden")
     told = browser.text("broken"), browser.value("document.getElementById('run').disabled")

@@ -70,7 +70,7 @@ def compare(trial, shown, row, account, last):
     trial.expect(f"{where}: {len(shown['tasks'])} places", len(shown["tasks"]) == 9)
     for k, text in enumerate(shown["tasks"]):
         address, left = waits[k].split("+") if k < len(waits) else ("free", "")
-        trial.expect(f"{where}: {text}", address in text and (not left or f"in {left} cs" in text))
+        trial.expect(f"{where}: {text}", address in text and (not left or f"in {int(left) / 100:.2f} s" in text))
     trial.expect(f"{where}: six phases, three codes",
                  (len(shown["phases"]), len(shown["codes"])) == (6, 3))
     for line in account:

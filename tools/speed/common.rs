@@ -1,6 +1,5 @@
-//! What the tuned programs share, `tuned.rs` and `words.rs`: requests and replies, the plain form of a
-//! bench, and how answers are written: by lines from constants, a table of digits, and a buffer of
-//! their own in front of the output.
+//! What `tuned.rs` reads and writes: requests and replies, the plain form of a bench, and how answers
+//! are written: by lines from constants, a table of digits, and a buffer in front of the output.
 use std::io::{self, Read, Write};
 
 pub const AREAS: [u16; 5] = [0o300, 0o354, 0o430, 0o504, 0o560];

@@ -1,23 +1,23 @@
 -- How a run can end whose words are refused.
 use Rattle.std.proofs.Common.{◌≡◌, ◌⊎◌, ℕ, List, [], ◌∷◌, Result, Ok, Err, IsErrAnd, inl, inr, ap, sym, subst, ◌∙◌}
-use Rattle.agc_program.specs.declared.fault.Fault.{Fault}
-use Rattle.agc_program.specs.declared.fault.Fault.TheVariants as fault
+use Rattle.agc_program.specs.declared.fault.ProgramFault.{ProgramFault}
+use Rattle.agc_program.specs.declared.fault.ProgramFault.TheVariants as fault
 use Rattle.agc.specs.declared.mode.Mode.{Mode}
 use Rattle.agc_program.proofs.Ends.{no_first}
 use Rattle.agc.specs.Modes.{AskFor, mode_name}
 use Rattle.agc.specs.Program.{EndsFor}
 
 -- words are wrong
-abbrev IsRefused : Result Mode Fault → Type 0
+abbrev IsRefused : Result Mode ProgramFault → Type 0
 IsRefused (Err fault.Words) = Unit
 IsRefused other = ⊥
 
 -- wrong words are no mode, and no want of memory
-pub no_mode : (asked : Mode) (why : Fault) (answer : Result Mode Fault) → answer ≡ Err why → why ≡ fault.Words → (answer ≡ Ok asked) ⊎ (answer ≡ Err fault.NoMemory) → ⊥
+pub no_mode : (asked : Mode) (why : ProgramFault) (answer : Result Mode ProgramFault) → answer ≡ Err why → why ≡ fault.Words → (answer ≡ Ok asked) ⊎ (answer ≡ Err fault.NoMemory) → ⊥
 no_mode asked why answer gives is (inl e) = subst IsRefused (sym gives ∙ e) (subst (λ w. IsRefused (Err w)) (sym is) tt)
 no_mode asked why answer gives is (inr e) = subst IsRefused (sym gives ∙ e) (subst (λ w. IsRefused (Err w)) (sym is) tt)
 
-pub ends_refused : (words : List (List ℕ)) (why : Fault) (outcome : Result Unit Fault) → IsErrAnd outcome (λ e. e ≡ why) → (why ≡ fault.Words → (asked : Mode) → AskFor words asked → ⊥) → (why ≡ fault.Words) ⊎ (why ≡ fault.NoMemory) → EndsFor words outcome
+pub ends_refused : (words : List (List ℕ)) (why : ProgramFault) (outcome : Result Unit ProgramFault) → IsErrAnd outcome (λ e. e ≡ why) → (why ≡ fault.Words → (asked : Mode) → AskFor words asked → ⊥) → (why ≡ fault.Words) ⊎ (why ≡ fault.NoMemory) → EndsFor words outcome
 ends_refused words why (Ok done) gives none is = absurd gives
 ends_refused words why (Err e) gives none (inl is) = inr (inr (none is, ap Err (gives ∙ is)))
 ends_refused words why (Err e) gives none (inr is) = inr (inl (ap Err (gives ∙ is)))

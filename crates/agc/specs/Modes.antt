@@ -9,6 +9,6 @@ mode_name Script = codes "script"
 mode_name Serial = codes "serial"
 mode_name Threads = codes "threads"
 
--- these words ask for a mode: its name alone stands behind the program's own
+-- a mode's words: the program's name, and the mode's name
 abbrev pub AskFor : (words : List (List ℕ)) → Mode → Type 0
 AskFor words mode = (name : List ℕ) × (words ≡ name ∷ mode_name mode ∷ [])

@@ -7,10 +7,10 @@ mod program;
 
 ghost use Rattle.std.specs.Prelude.{◌≡◌, codes};
 
-use agc_program::{Program, ended};
+use agc_program::{Program, exit_with};
 use std::process::ExitCode;
 
-/// What the program is called, and which words it takes.
+/// The program's name, and its message about wrong words.
 fn this_program() -> Program
     ensures name { result.name.now ≡ codes "agc" }
     ensures usage { result.usage.now ≡ codes "use script, serial or threads" }
@@ -22,5 +22,5 @@ fn this_program() -> Program
 }
 
 fn main(rt: HostRuntime) -> ExitCode {
-    ended(&rt, this_program(), program::run(&rt))
+    exit_with(&rt, this_program(), program::run(&rt))
 }

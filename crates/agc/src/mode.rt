@@ -3,17 +3,17 @@ ghost use Rattle.std.specs.Prelude.{◌≡◌, ◌⊎◌, Err, IfErr, IfOk, IfSo
 ghost use Rattle.std.specs.Prelude.{map};
 ghost use Rattle.std.specs.String.{string_bytes};
 ghost use Rattle.clap.specs.Words.{app_of, subcommand_name_of};
-ghost use Rattle.agc_program.specs.declared.fault.Fault.TheVariants.{NoMemory, Words};
+ghost use Rattle.agc_program.specs.declared.fault.ProgramFault.TheVariants.{NoMemory, Words};
 ghost use Rattle.agc.specs.declared.mode.Mode.{Mode};
 ghost use Rattle.agc.specs.declared.mode.Mode.TheVariants.{Script, Serial, Threads};
 ghost use Rattle.agc.specs.Modes.{AskFor, mode_name};
 ghost use Rattle.agc.specs.Steps.{mode_app};
 
-use agc_program::{Fault, only_word};
+use agc_program::{ProgramFault, only_word};
 use clap::{ArgMatches, Command};
 use std::alloc::{AllocError, Global};
 
-/// What the program is asked to run.
+/// The mode of a run.
 #[derive(Clone, Copy, Debug, PartialEq, Eq)]
 pub enum Mode {
     /// A script of request lines.
@@ -41,7 +41,7 @@ fn mode_named(name: &str) -> Option<Mode>
 }
 
 /// The mode that the only word after the program's own name asks for, which `clap` found.
-fn mode_alone(matches: &ArgMatches<'_>, words: &[String]) -> Result<Mode, Fault>
+fn mode_alone(matches: &ArgMatches<'_>, words: &[String]) -> Result<Mode, ProgramFault>
     ensures asked { IfOk result (AskFor (map string_bytes words.now)) }
     ensures only { (mode : Mode) → AskFor (map string_bytes words.now) mode
         → subcommand_name_of matches.now ≡ Some (mode_name mode) → result ≡ Ok mode }
@@ -49,9 +49,9 @@ fn mode_alone(matches: &ArgMatches<'_>, words: &[String]) -> Result<Mode, Fault>
 {
     let found = only_word(matches, words)?;
     if found != words[1].as_str() {
-        return Err(Fault::Words);
+        return Err(ProgramFault::Words);
     }
-    mode_named(found).ok_or(Fault::Words)
+    mode_named(found).ok_or(ProgramFault::Words)
 }
 
 /// The command that the words are of: a subcommand for each mode.
@@ -70,7 +70,7 @@ fn mode_command<'a>(alloc: Global) -> Result<Command<'a>, AllocError>
 /// # Errors
 ///
 /// `Words` for any other words, and `NoMemory`.
-pub fn mode_of(alloc: Global, words: &[String]) -> Result<Mode, Fault>
+pub fn mode_of(alloc: Global, words: &[String]) -> Result<Mode, ProgramFault>
     ensures asked { IfOk result (AskFor (map string_bytes words.now)) }
     ensures only { (mode : Mode) → AskFor (map string_bytes words.now) mode
         → (result ≡ Ok mode) ⊎ (result ≡ Err NoMemory) }

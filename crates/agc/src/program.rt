@@ -1,24 +1,25 @@
-//! What the program does: the words, the reading, the script or bench, the run, in this order.
+//! The program: it reads its words and its input, makes a script or a bench of it, and runs that.
 ghost use Rattle.agc.specs.declared.mode.Mode.TheVariants.{Script, Serial, Threads};
-ghost use Rattle.std.specs.Prelude.{map};
+ghost use Rattle.std.specs.Io.Buffered.{writer_buffer, writer_contents};
+ghost use Rattle.std.specs.Prelude.{◌≡◌, [], OnOk, map};
 ghost use Rattle.std.specs.String.{string_bytes};
-ghost use Rattle.agc_program.specs.Inputs.{CanEnd, EndsBy};
-ghost use Rattle.agc.specs.Program.{EndsFor, IsEnd, RunsText};
+ghost use Rattle.agc_program.specs.Inputs.{EndsBy};
+ghost use Rattle.agc.specs.Program.{EndsFor, IsEnd, RunsText, RunsThrough};
 
 use crate::mode::{Mode, mode_of};
 use agc_bench::{OpenGate, threads};
 use agc_document::read_bench;
-use agc_program::{Fault, buffered, flushed, given_words};
+use agc_program::{ProgramFault, buffered_output, flush_output, given_words};
 use agc_session::{run_script, serial};
 use agc_text::{read_all, read_script};
 use std::alloc::Global;
-use std::io::{Read, Write};
+use std::io::{BufWriter, Read, Write};
 use std::rt::Env;
 use std::sync::Wait;
 use std::thread::Threads;
 
 /// Runs a text as a script.
-fn run_as_script<W: Write>(alloc: Global, text: &str, writer: &mut W) -> Result<(), Fault>
+fn run_as_script<W: Write>(alloc: Global, text: &str, writer: &mut W) -> Result<(), ProgramFault>
     ensures { RunsText Script text.now (W.contents writer.old) (W.contents writer.new) result }
 {
     let requests = read_script(alloc, text)?;
@@ -27,7 +28,7 @@ fn run_as_script<W: Write>(alloc: Global, text: &str, writer: &mut W) -> Result<
 }
 
 /// Runs a text as a bench by one caller.
-fn run_as_serial<W: Write>(alloc: Global, text: &str, writer: &mut W) -> Result<(), Fault>
+fn run_as_serial<W: Write>(alloc: Global, text: &str, writer: &mut W) -> Result<(), ProgramFault>
     ensures { RunsText Serial text.now (W.contents writer.old) (W.contents writer.new) result }
 {
     let bench = read_bench(alloc, text)?;
@@ -41,7 +42,7 @@ fn run_as_threads<T: Threads + Wait + Sync, W: Write>(
     alloc: Global,
     text: &str,
     writer: &mut W,
-) -> Result<(), Fault>
+) -> Result<(), ProgramFault>
     ensures { RunsText Threads text.now (W.contents writer.old) (W.contents writer.new) result }
 {
     let bench = read_bench(alloc, text)?;
@@ -56,7 +57,7 @@ fn run_input<T: Threads + Wait + Sync, R: Read, W: Write>(
     mode: Mode,
     reader: &mut R,
     writer: &mut W,
-) -> Result<(), Fault>
+) -> Result<(), ProgramFault>
     ensures { EndsBy (RunsText mode) (R.remaining reader.old) (R.remaining reader.new)
         (W.contents writer.old) (W.contents writer.new) result }
 {
@@ -68,34 +69,37 @@ fn run_input<T: Threads + Wait + Sync, R: Read, W: Write>(
     }
 }
 
-/// Runs standard input as the mode says, and writes through a buffer that is flushed at the end.
-fn run_mode<R: AllocGlobal + Input + Print + Threads + Wait + Sync>(
-    rt: &R,
+/// Runs the input as the mode says, and flushes the buffer through which it writes.
+fn run_mode<T: AllocGlobal + Threads + Wait + Sync, R: Read, W: Write + Drop>(
+    rt: &T,
     mode: Mode,
-) -> Result<(), Fault>
-    ensures { CanEnd (RunsText mode) result }
+    reader: &mut R,
+    output: &mut BufWriter<W>,
+) -> Result<(), ProgramFault>
+    ensures runs { RunsThrough mode (R.remaining reader.old) (R.remaining reader.new)
+        (writer_contents W.contents output.old) (writer_contents W.contents output.new) result }
+    ensures flushed { OnOk result (writer_buffer output.new ≡ []) }
 {
-    let mut output = buffered(rt)?;
-    run_input(rt, rt.alloc(), mode, &mut rt.reader(), &mut output)?;
-    flushed(&mut output)?;
-    Ok(())
+    run_input(rt, rt.alloc(), mode, reader, output)?;
+    flush_output(output)
 }
 
 /// Runs as these words say, of which the first is the program's own name.
 fn run_words<R: AllocGlobal + Input + Print + Threads + Wait + Sync>(
     rt: &R,
     words: &[String],
-) -> Result<(), Fault>
+) -> Result<(), ProgramFault>
     ensures { EndsFor (map string_bytes words.now) result }
 {
     let mode = mode_of(rt.alloc(), words)?;
-    run_mode(rt, mode)
+    let mut output = buffered_output(rt)?;
+    run_mode(rt, mode, &mut rt.reader(), &mut output)
 }
 
 /// Runs the program.
 pub fn run(
     rt: &(impl Env + AllocGlobal + Input + Print + Threads + Wait + Sync),
-) -> Result<(), Fault>
+) -> Result<(), ProgramFault>
     ensures { IsEnd result }
 {
     let given = given_words(rt)?;

@@ -41,7 +41,7 @@ abbrev pub drains_of : Asker → ℕ
 drains_of (Worker worker requests) = 0
 drains_of (Attends times) = times
 
--- with a share that was what is old, these calls were made and so many drains, and it is now new
+-- with a share that was what is old, these calls were made and this many drains, and it is now new
 pub record GoesOnWith (calls : List Call) (drains : ℕ) (old new : Holder) : Type 0 where
   pub number : new.number ≡ old.number
   pub heard : new.heard ≡ old.heard ++ calls
@@ -55,7 +55,7 @@ pub record AsksOwn (may_answer : ℕ → ℕ → Bool → Type 0) (is_told : ℕ
   pub told : ToldOwn is_told asker calls
   pub with_it : GoesOnWith calls (drains_of asker) old new
 
--- with a share its holder drained so many times, and all its calls were pulses
+-- with a share its holder drained this many times, and all its calls were pulses
 pub record AsksPulses (times : ℕ) (old new : Holder) : Type 0 where
   pub calls : List Call
   pub own : All (λ call. IsSome call.pulse) calls
@@ -74,7 +74,7 @@ pub record HaveAsked (may_answer : ℕ → ℕ → Bool → Type 0) (is_told : �
   pub for_each : length new ≡ length old
   pub each : EachAsks may_answer is_told (thread_at bench) old new
 
--- what a device posts per line: all its pulses, on its own
+-- the posts of a device per line: all its pulses, on its own
 abbrev pub posts_of : Line × ℕ → List ℕ
 posts_of device = raised (word_of device.0) device.1 zeros
 
@@ -86,12 +86,12 @@ spent_device latch device = record { latch = latch; posts = device.1; posted = p
 abbrev pub new_devices : TableId → Benched → List Posting
 new_devices latch bench = map (λ d. new_device latch d.1) bench.devices
 
--- and when they have posted them all
+-- the devices of a bench after they have posted all their pulses
 abbrev pub spent_devices : TableId → Benched → List Posting
 spent_devices latch bench = map (spent_device latch) bench.devices
 
--- what a thread of this number promises: to ask what is its own, as the bench says, with the share
--- at its place as that was when the thread started, through this gate
+-- the promise of the thread of this number: to make its own requests, as the bench says, with the
+-- share at its place as that was when the thread started, through this gate
 pub record IsPledge {G : Type 0} (bench : Benched) (starts : List Holder) (gate : G) (thread : ℕ)
     (its_start : Holder) (its_bench : Benched) (its_thread : ℕ) (its_gate : G) : Type 0 where
   pub start_is : (s : Holder) → its_start ≡ slice_index_or starts thread s
@@ -99,20 +99,21 @@ pub record IsPledge {G : Type 0} (bench : Benched) (starts : List Holder) (gate 
   pub thread_is : its_thread ≡ thread
   pub gate_is : its_gate ≡ gate
 
--- what the thread of a device at this place promises: to post, on this latch, on the line and as
+-- the promise of the thread of a device at this place: to post, on this latch, on the line and as
 -- often as the bench says
 pub record IsPosts (latch : TableId) (bench : Benched) (place : ℕ) (its_latch : TableId)
     (planned : Line × ℕ) : Type 0 where
   pub latch_is : its_latch ≡ latch
   pub planned_is : (d : Line × ℕ) → planned ≡ slice_index_or bench.devices place d
 
--- what a desk has lent of a latch when each device of a bench was given out, and none came back
+-- the part of a latch that a desk has lent when each device of a bench was given out, and none came
+-- back
 abbrev pub lent_to : TableId → Benched → Lent
 lent_to latch bench =
     record { latch = Some latch; given = length bench.devices; settled = zeros }
 
--- what takes part in a run before it begins: the script was asked with the caller's share; each
--- thread that asks has a share, with which nothing was asked; and each device may post its pulses
+-- the parts of a run before it begins: the script was asked with the caller's share; each thread
+-- that asks has a share, with which nothing was asked; and each device may post its pulses
 pub record AreReady (first : Machined) (bench : Benched) (latch : TableId)
     (caller : Holder) (shares : List Holder) (devices : List Posting) : Type 0 where
   pub caller_is : caller ≡ with_heard (first_calls (answers_to first bench.script)) (new_holder 0)
@@ -120,8 +121,8 @@ pub record AreReady (first : Machined) (bench : Benched) (latch : TableId)
   pub for_each : length shares ≡ length (threads_of bench)
   pub devices_are : devices ≡ new_devices latch bench
 
--- what takes part in a run when its threads have ended: each asked what is its own with the share
--- that it had, and each device posted its pulses
+-- the parts of a run when its threads have ended: each made its own requests with the share that it
+-- had, and each device posted its pulses
 pub record HaveRun (may_answer : ℕ → ℕ → Bool → Type 0) (is_told : ℕ → ℕ → Said → Type 0)
     (first : Machined) (bench : Benched) (latch : TableId) (caller : Holder) (shares : List Holder)
     (devices : List Posting) : Type 0 where
@@ -140,14 +141,14 @@ pub record IsToldRun (may_answer : ℕ → ℕ → Bool → Type 0) (is_told : �
 abbrev pub GoesOn : List Call → List Call → Type 0
 GoesOn old new = (more : List Call) × (new ≡ old ++ more)
 
--- what became of the pulses that these devices posted: each was applied or is owed
+-- the pulses that these devices posted: each was applied or is owed
 pub record HaveSettled (devices : List Posting) (settled : Settled) : Type 0 where
   pub posted : (line : Line) → on line settled.posted ≡ posted_by line devices
   pub whole : (line : Line)
       → on line settled.posted ≡ on line settled.applied + on line settled.owed
 
 -- after these calls the caller attends once with its share, and then the calls that were made with
--- that share and with these are one history, which leads to the machine, and of whose pulses so
+-- that share and with these are one history, which leads to the machine, and of whose pulses this
 -- many are told to be applied; none is begun where none is owed
 pub record Finishes (first : Machined) (calls : List Call) (caller : Holder) (shares : List Holder)
     (machine : Machined) (settled : Settled) : Type 0 where

@@ -1,4 +1,4 @@
--- What the threads of a bench ask and post, and what a run of them writes.
+-- The requests and posts of a bench's threads, and the output of a run of them.
 use Rattle.std.specs.Prelude.{◌≡◌, ℕ, ◌+◌, ◌<◌, List, [], ◌∷◌, ◌++◌, map, length, sum_by}
 use Rattle.std.specs.Prelude.{◌==◌, if◌then◌else◌, Bool, Option, IsNone, IsSome}
 use Rattle.std.specs.Prelude.{Result, Err}
@@ -24,8 +24,8 @@ use Rattle.agc_text.specs.Pulses.{pulses_text}
 use Rattle.agc_text.specs.Report.{report_text}
 use Rattle.agc_text.specs.Writing.{Writes}
 
--- who asks with a share: a worker with its number and its requests, or one who attends to pulses so
--- many times
+-- who asks with a share: a worker with its number and its requests, or one who attends to pulses
+-- this many times
 pub data Asker : Type 0 where
   Worker : ℕ → List Request → Asker
   Attends : ℕ → Asker
@@ -64,8 +64,8 @@ pub record IsRun (may_answer : ℕ → ℕ → Bool → Type 0) (bench : Benched
   pub pulses : ArePulses (bench_plan bench) calls settled.applied begun
   pub none_begun : (line : Line) → on line settled.owed ≡ 0 → on line begun ≡ 0
 
--- what a gate was told of one who made these calls: of a worker each with its answer; of one who
--- attends nothing
+-- the answers that a gate was given for these calls: all of a worker's; none of the thread that
+-- attends
 abbrev pub ToldOwn : (ℕ → ℕ → Said → Type 0) → Asker → List Call → Type 0
 ToldOwn is_told (Worker worker requests) calls = AreTold (is_told worker) calls
 ToldOwn is_told (Attends times) calls = Unit {0}
@@ -80,7 +80,7 @@ abbrev pub pulses_of : Line → Benched → ℕ
 pulses_of line bench =
     sum_by (λ d. if word_of d.0 == word_of line then d.1 else 0) bench.devices
 
--- what became of the pulses of a bench: all were posted, and each was applied or is owed
+-- the pulses of a bench: all were posted, and each was applied or is owed
 pub record AreSettled (bench : Benched) (settled : Settled) : Type 0 where
   pub posted : (line : Line) → on line settled.posted ≡ pulses_of line bench
   pub whole : (line : Line)
@@ -100,8 +100,8 @@ pub record IsRunReport (may_answer : ℕ → ℕ → Bool → Type 0) (is_told :
   pub text_is : text ≡ report_text machine.plan.sets words machine.totals
       ++ pulses_text settled.posted settled.applied settled.owed
 
--- what a run of threads wrote: the report and nothing else; a front of it where a write failed;
--- nothing where there was no memory or no thread; Lost is never answered
+-- the output of a run of threads: the report and nothing else; a front of it if a write failed;
+-- nothing if there was no memory or no thread; Lost is never answered
 abbrev pub WritesRun : {T : Type 0} → (ℕ → ℕ → Bool → Type 0) → (ℕ → ℕ → Said → Type 0) → Benched
     → Option (List ℕ) → Option (List ℕ) → Result T RunFault → Type 0
 WritesRun may_answer is_told bench old new (Err NoMemory) = new ≡ old

@@ -66,7 +66,7 @@ fn gather_all<N: Names>(
 {
     match with_first(first, shares) {
         Ok(all) => match gather(desk, all) {
-            Ok(gathered) => Ok(gathered),
+            Ok(gather_report) => Ok(gather_report),
             Err(_left) => unreachable!(),
         },
         Err(fault) => {

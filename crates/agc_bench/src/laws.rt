@@ -7,8 +7,7 @@ use agc_desk::Gate;
 use agc_document::Bench;
 
 /// A law: a run's report has just one text for one end. Where two texts are reports of the bench's
-/// threads, and the same machine and the same pulses are left, the texts are equal. Source:
-/// profile.
+/// threads, and the same machine and the same pulses are left, the texts are equal.
 pub fn report_has_one_text<G: Gate>(gate: &G, bench: &Bench)
     ensures { (these those : List ℕ)
         (one : IsRunReport (λ n call answer. G.may_answer gate.now n call answer)

@@ -1,6 +1,7 @@
 ghost use Rattle.std.specs.Prelude.{◌≡◌, ◌+◌, ◌≤◌, ℕ, [], IfOk, IfErr, OnOk, Some};
 ghost use Rattle.std.specs.Prelude.{length, map, nat_eq, vec_len};
 ghost use Rattle.agc_latch.specs.Accounts.{no_accounts, with_taker};
+ghost use Rattle.agc_latch.specs.Ends.{new_taker};
 ghost use Rattle.agc_latch.specs.Ends.{new_device};
 ghost use Rattle.agc_desk.specs.Desks.{new_desk};
 ghost use Rattle.agc_desk.specs.Draining.{answers_to};
@@ -18,8 +19,8 @@ use agc_machine::Machine;
 use agc_session::RunFault;
 use std::alloc::Global;
 
-/// What takes part in a run of threads: the desk, as it is under the lock; the share of the caller;
-/// those of the threads; and the devices.
+/// The parts of a run of threads: the desk, as it is under the lock; the share of the caller; those
+/// of the threads; and the devices.
 #[derive(Drop)]
 pub(crate) struct RunParts<N: Sharing> {
     pub(crate) held: Held<N>,
@@ -28,7 +29,7 @@ pub(crate) struct RunParts<N: Sharing> {
     pub(crate) devices: Vec<Device>,
 }
 
-/// So many new shares of a desk. `Lost` comes only where the desk has fewer left.
+/// New shares of a desk. `Lost` comes only if the desk has fewer left.
 fn shares_of<N: Names>(
     alloc: Global,
     desk: &mut Desk<N>,
@@ -58,7 +59,7 @@ fn threads_and_devices<N: Names>(
     bench: &Bench,
 ) -> Result<(Vec<Share<N>>, Vec<Device>), RunFault>
     requires given { desk.old.given ≡ 1 }
-    requires lines { desk.old.lines ≡ with_taker latch.now no_accounts }
+    requires lines { desk.old.lines ≡ with_taker (new_taker latch.now) no_accounts }
     ensures fresh { IfOk result (λ r. AreFresh 1 r.0.items) }
     ensures for_each { IfOk result (λ r. vec_len r.0 ≡ length (threads_of bench.now)) }
     ensures devices { IfOk result (λ r. r.1.items ≡ map
@@ -84,7 +85,7 @@ fn with_threads<N: Sharing>(
     bench: &Bench,
 ) -> Result<RunParts<N>, RunFault>
     requires desk { desk ≡ record (new_desk N.first)
-        { given = 1; lines = with_taker latch.now no_accounts } }
+        { given = 1; lines = with_taker (new_taker latch.now) no_accounts } }
     requires first { first ≡ new_holder 0 }
     requires shares { (given : ℕ) → N.may_share given ≡ nat_eq given
         (length (askers_of bench.now)) }
@@ -127,7 +128,7 @@ pub(crate) fn open<N: Sharing>(
     requires shares { (given : ℕ) → N.may_share given ≡ nat_eq given
         (length (askers_of bench.now)) }
     requires begun { N.begun ≡ first_calls (answers_to N.first bench.now.script) }
-    requires taker { taker ≡ latch.now }
+    requires taker { taker ≡ new_taker latch.now }
     requires latch { latch.now ≡ N.latch }
     requires lent { N.lent ≡ Some (lent_to latch.now bench.now) }
     ensures ready { IfOk result (λ p. AreReady N.first bench.now latch.now p.first p.shares.items

@@ -1,6 +1,6 @@
 ghost use Rattle.std.specs.Prelude.{◌≡◌, ◌<◌, ℕ, IfOk, IfErr, Some, length, nat_eq};
 ghost use Rattle.std.specs.Prelude.{slice_index_or, vec_len};
-ghost use Rattle.agc_latch.specs.Ends.{new_device};
+ghost use Rattle.agc_latch.specs.Ends.{new_device, new_taker};
 ghost use Rattle.agc_desk.specs.Draining.{answers_to};
 ghost use Rattle.agc_desk.specs.Opening.{names_of};
 ghost use Rattle.agc_session.specs.Runs.{bench_machine};
@@ -31,7 +31,7 @@ use std::sync::{Mutex, Wait};
 use std::thread;
 use std::thread::{Promise, PromisedHandle, Scope, Threads};
 
-/// What a thread promises of its share: that it asks what is its own, through this gate.
+/// The promise of a thread for its share: it makes its own requests, through this gate.
 #[derive(Drop)]
 struct Pledge<'b, 'g, N: Names, G: Gate> {
     start: Snapshot<Share<N>>,
@@ -47,7 +47,7 @@ impl<'b, 'g, N: Names, G: Gate> Promise<Share<N>> for Pledge<'b, 'g, N, G> {
         (thread_at pledge.bench.now pledge.thread) pledge.start.value told };
 }
 
-/// What a device's thread promises of its device: that it posts all its pulses, on its line.
+/// The promise of a device's thread: it posts all pulses of its device, on its line.
 #[derive(Drop)]
 struct Posts<'l> {
     latch: &'l Latch,
@@ -240,8 +240,8 @@ fn run_locked<N: Sharing + Send + Sync, G: Gate + Sync, W: Threads + Wait + Sync
     }
 }
 
-/// What a run of threads begins with: a machine, what its desk is told apart by, and a latch with
-/// its taker.
+/// The beginnings of a run of threads: a machine, the brand of its desk, and a latch with its
+/// taker.
 #[derive(Drop)]
 struct Outfit {
     machine: Machine,
@@ -252,7 +252,7 @@ struct Outfit {
 
 /// Runs a bench's machine with threads: the script is asked, all threads do what is theirs, and
 /// when they have ended the caller attends, settles and gathers.
-fn gathered<N: Sharing + Send + Sync, G: Gate + Sync, W: Threads + Wait + Sync>(
+fn gather_report<N: Sharing + Send + Sync, G: Gate + Sync, W: Threads + Wait + Sync>(
     rt: &W,
     alloc: Global,
     outfit: Outfit,
@@ -265,7 +265,7 @@ fn gathered<N: Sharing + Send + Sync, G: Gate + Sync, W: Threads + Wait + Sync>(
     requires shares { (given : ℕ) → N.may_share given ≡ nat_eq given
         (length (askers_of bench.now)) }
     requires begun { N.begun ≡ first_calls (answers_to N.first bench.now.script) }
-    requires taker { outfit.taker ≡ outfit.latch }
+    requires taker { outfit.taker ≡ new_taker outfit.latch }
     requires latch { outfit.latch ≡ N.latch }
     requires lent { N.lent ≡ Some (lent_to outfit.latch bench.now) }
     ensures run { IfOk result (λ r. IsToldRun (λ n call answer. G.may_answer gate.now n call answer)
@@ -315,13 +315,13 @@ fn report_run<W: Write>(
 /// report is written: of the machine that some order of all these requests reaches, in which each
 /// worker's requests keep their order. Then come the lines that say how many pulses were posted,
 /// how many of these were applied, and how many are owed. The writer is not flushed. It may wait
-/// for the lock and for the threads. Source: profile.
+/// for the lock and for the threads.
 ///
 /// # Errors
 ///
-/// `NoMemory`, and `NoThread` where a thread couldn't be started: nothing was written, and the
-/// threads that were started are joined. `Output`, where a write failed, or took nothing of what
-/// was left; a front of the text was then written. `Lost` never comes.
+/// `NoMemory`, and `NoThread` if a thread couldn't be started: nothing was written, and the threads
+/// that were started are joined. `Output` if a write failed, or took nothing of what was left; a
+/// front of the text was then written. `Lost` never comes.
 pub fn threads<R: Threads + Wait + Sync, W: Write, G: Gate + Sync>(
     rt: &R,
     alloc: Global,
@@ -342,7 +342,7 @@ pub fn threads<R: Threads + Wait + Sync, W: Write, G: Gate + Sync>(
         latch,
         taker,
     };
-    let (machine, totals, settled) = gathered::<Brand, G, R>(rt, alloc, outfit, bench, gate)?;
+    let (machine, totals, settled) = gather_report::<Brand, G, R>(rt, alloc, outfit, bench, gate)?;
     report_run(&machine, &totals, &settled, writer)?;
     Ok(())
 }

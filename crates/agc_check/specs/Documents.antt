@@ -6,7 +6,7 @@ use Rattle.agc_check.specs.declared.document.NoDocument.{NoDocument}
 use Rattle.agc_check.specs.declared.document.NoDocument.TheVariants as refused
 use Rattle.agc_check.specs.Findings.{AreFindings}
 
--- the text is no document, of which this is found; want of memory aside
+-- the text is no document, of which this is found; unless memory runs out
 abbrev pub IsNoDocument : List ℕ → NoDocument → Type 0
 IsNoDocument text refused.NoMemory = Unit {0}
 IsNoDocument text (refused.NotToml found) =

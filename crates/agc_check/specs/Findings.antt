@@ -1,4 +1,4 @@
--- What is found wrong with a document.
+-- The findings of a document.
 use Rattle.std.specs.Prelude.{◌≡◌, ◌≤◌, ℕ, suc, ◌+◌, ◌==◌, if◌then◌else◌, List, [], ◌∷◌, ◌++◌}
 use Rattle.std.specs.Prelude.{length, take, map, min, Option, Some, None}
 use Rattle.std.specs.List.{All}
@@ -10,24 +10,24 @@ use Rattle.agc_document.specs.declared.key_fault.KeyFault.{KeyFault}
 use Rattle.agc_document.specs.declared.key_fault.KeyFault.TheVariants.{Unknown, Value, Item}
 use Rattle.agc_document.specs.declared.notes.KeyNote.{KeyNote}
 use Rattle.agc_document.specs.declared.notes.TextNote.{TextNote}
-use Rattle.agc_document.specs.declared.place.Place.{Place}
-use Rattle.agc_document.specs.declared.place.Place.TheVariants.{Whole}
-use Rattle.agc_check.specs.declared.wrong.Wrong.{Wrong}
-use Rattle.agc_check.specs.declared.wrong.Wrong.TheVariants as wrong
+use Rattle.agc_document.specs.declared.location.Location.{Location}
+use Rattle.agc_document.specs.declared.location.Location.TheVariants.{Whole}
+use Rattle.agc_check.specs.declared.problem.Problem.{Problem}
+use Rattle.agc_check.specs.declared.problem.Problem.TheVariants as wrong
 use Rattle.agc_document.specs.Benches.{Benched, IsBench, bench_texts}
 use Rattle.agc_document.specs.Faults.{HasTexts, RefusesBench}
 
 -- a finding: the byte of the document at which it is, the number of that byte's line, where in the
 -- bench that is, the text that is told, and what is wrong
-pub record Found : Type 0 where
+pub record FindingView : Type 0 where
   pub at : ℕ
   pub line : ℕ
-  pub place : Place
+  pub place : Location
   pub text : List ℕ
-  pub wrong : Wrong
+  pub wrong : Problem
 
 -- the fault of a bench with which this is wrong
-abbrev pub refusal_of : Wrong → BenchFault
+abbrev pub refusal_of : Problem → BenchFault
 refusal_of wrong.NotToml = refusal.NotToml
 refusal_of wrong.NoQuotes = refusal.NotToml
 refusal_of wrong.NoKeys = refusal.NotToml
@@ -52,14 +52,15 @@ abbrev pub StandsIn : List ℕ → ℕ → Type 0
 StandsIn text n = (1 ≤ n) × (n ≤ line_ends text + 1)
 
 -- a finding of this fault, at a byte of the document or at its end, and in that byte's line
-pub record IsFound (document : List ℕ) (fault : BenchFault) (f : Found) : Type 0 where
+pub record IsFindingOf (document : List ℕ) (fault : BenchFault) (f : FindingView) : Type 0 where
   pub at : f.at ≤ length document
   pub line : f.line ≡ line_of document f.at
   pub is : refusal_of f.wrong ≡ fault
 
 -- findings of one fault, in the order of the document
-pub record AreFound (document : List ℕ) (fault : BenchFault) (fs : List Found) : Type 0 where
-  pub all : All (IsFound document fault) fs
+pub record AreFindingsOf (document : List ℕ) (fault : BenchFault)
+    (fs : List FindingView) : Type 0 where
+  pub all : All (IsFindingOf document fault) fs
   pub order : IsNonDecreasingBy (λ f. f.at) fs
 
 -- how many findings of a fault there may be, and how many of texts after them
@@ -72,62 +73,63 @@ abbrev pub most_after : BenchFault → ℕ
 most_after refusal.Key = 20
 most_after _ = 0
 
--- what is found in a document with this fault: some of that fault, and then texts
-pub record AreFindings (document : List ℕ) (fault : BenchFault) (fs : List Found) : Type 0 where
-  pub front : List Found
-  pub texts : List Found
+-- the findings of a document with this fault: some of that fault, and then texts
+pub record AreFindings (document : List ℕ) (fault : BenchFault)
+    (fs : List FindingView) : Type 0 where
+  pub front : List FindingView
+  pub texts : List FindingView
   pub is : fs ≡ front ++ texts
   pub some : 1 ≤ length front
   pub few : length front ≤ most_of fault
   pub few_texts : length texts ≤ most_after fault
-  pub of_fault : AreFound document fault front
-  pub of_texts : AreFound document refusal.Line texts
+  pub of_fault : AreFindingsOf document fault front
+  pub of_texts : AreFindingsOf document refusal.Line texts
 
--- what a finding says: where something is wrong, what, and which text is that
-pub record Said : Type 0 where
-  pub place : Place
-  pub wrong : Wrong
+-- the contents of a finding: the place of the error, its kind, and the text there
+pub record Message : Type 0 where
+  pub place : Location
+  pub wrong : Problem
   pub text : List ℕ
 
 -- the text that a finding quotes, unless it is of the value of a key
-abbrev pub quoted : Wrong → List ℕ → List ℕ
+abbrev pub quoted : Problem → List ℕ → List ℕ
 quoted (wrong.Key (Value key)) text = []
 quoted (wrong.Key (Item key)) text = []
 quoted other text = text
 
--- what a finding says, apart from the digits of a value
-abbrev pub say : Place → Wrong → List ℕ → Said
+-- the contents of a finding, apart from the digits of a value
+abbrev pub say : Location → Problem → List ℕ → Message
 say place what text = record { place = place; wrong = what; text = quoted what text }
 
-abbrev pub said : Found → Said
-said f = say f.place f.wrong f.text
+abbrev pub message_of : FindingView → Message
+message_of f = say f.place f.wrong f.text
 
 -- the name of a key that is unknown; other faults of keys have no text
 abbrev pub name_if : KeyFault → List ℕ → List ℕ
 name_if (Unknown level) name = name
 name_if fault name = []
 
--- what there is to say of a note
-abbrev pub of_key : KeyNote → Said
+-- the finding that reports a note
+abbrev pub of_key : KeyNote → Message
 of_key n =
     record { place = n.place; wrong = wrong.Key n.fault; text = name_if n.fault n.text.now }
 
-abbrev pub of_text : TextNote → Said
+abbrev pub of_text : TextNote → Message
 of_text n = record { place = n.place; wrong = wrong.Text n.form; text = n.text.now }
 
 -- the one thing to say
-abbrev pub alone : Place → Wrong → List Said
+abbrev pub alone : Location → Problem → List Message
 alone place what = say place what [] ∷ []
 
 -- where a document is refused for a key or a text, at least one such was noted
-abbrev pub IsNoted : BenchFault → List KeyNote → List TextNote → Type 0
-IsNoted refusal.Key keys texts = 1 ≤ length keys
-IsNoted refusal.Line keys texts = 1 ≤ length texts
-IsNoted fault keys texts = Unit {0}
+abbrev pub IsNote : BenchFault → List KeyNote → List TextNote → Type 0
+IsNote refusal.Key keys texts = 1 ≤ length keys
+IsNote refusal.Line keys texts = 1 ≤ length texts
+IsNote fault keys texts = Unit {0}
 
--- what there is to say of a document that is refused for this fault: of its keys, its texts and the
--- place of its plan this was noted
-abbrev pub to_say : BenchFault → List KeyNote → List TextNote → Place → List Said
+-- the findings of a document that is refused for this fault, from the notes about its keys and its
+-- texts and the place of its plan
+abbrev pub to_say : BenchFault → List KeyNote → List TextNote → Location → List Message
 to_say refusal.NoMemory keys texts plan = []
 to_say refusal.NotToml keys texts plan = alone Whole wrong.NotToml
 to_say refusal.Key keys texts plan = map of_key keys ++ map of_text texts
@@ -136,9 +138,8 @@ to_say refusal.TaskTwice keys texts plan = alone plan wrong.TaskTwice
 to_say refusal.PhaseTwice keys texts plan = alone plan wrong.PhaseTwice
 to_say refusal.TooManyAreas keys texts plan = alone plan wrong.TooManyAreas
 
--- what comes of a text: nothing is found, and it is a bench; or it is refused for the fault of what
--- is found first
-abbrev pub ChecksAs : List ℕ → Option Benched → List Found → Type 0
+-- a text has no findings and is a bench, or it is refused for the fault of the first finding
+abbrev pub ChecksAs : List ℕ → Option Benched → List FindingView → Type 0
 ChecksAs text (Some b) fs = (fs ≡ []) × IsBench b × HasTexts (parse_document text) (bench_texts b)
 ChecksAs text None fs = (fault : BenchFault) × RefusesBench (parse_document text) fault
     × AreFindings text fault fs

@@ -1,29 +1,31 @@
-//! What is said of what was found in a bench.
+//! The sentences about findings in a bench.
 use crate::finding::Finding;
-use crate::kind::{ACTIONS, JOBS, Kind, LEAVINGS, LISTINGS, NO_REQUEST, Part, REQUESTS, STEPS};
 use crate::line::{LineFault, fault_of};
-use crate::names::{Named, called, meant_by};
-use crate::saying::{Piece, Said, put, said};
+use crate::line_form::{
+    ACTIONS, JOBS, LEAVINGS, LISTINGS, LineForm, LineWord, NO_REQUEST, REQUESTS, STEPS,
+};
+use crate::messages::{Message, Part, message_of, put};
+use crate::names::{HasName, meant_by, with_name};
+use crate::problem::Problem;
 use crate::script::MOST_TOLD;
-use crate::wrong::Wrong;
 use agc_document::rows::{
     BENCH_KEYS, DEVICE_KEYS, EXPLORED_WORKER_KEYS, PHASE_KEYS, TASK_KEYS, WORKER_KEYS,
 };
-use agc_document::{Form, Key, KeyFault, Kind as Valued, Level, Place};
+use agc_document::{Key, KeyFault, Kind as Valued, Level, Location, TextForm};
 use agc_scenario::rows::{
     COST, COST_KEYS, EVENT_KEYS, JOB_KEYS, NAMED_PHASE_KEYS, NAMED_TASK_KEYS, SCENARIO_KEYS, STEAL,
     STEAL_KEYS,
 };
 use std::alloc::{AllocError, Global};
 
-impl Named for Key {
+impl HasName for Key {
     fn name(self) -> &'static str {
         Key::name(self)
     }
 }
 
-/// What fills no gap.
-const NONE: Piece<'static> = Piece::Text("");
+/// For a gap that a text doesn't have.
+const NONE: Part<'static> = Part::Text("");
 
 const INTEGER: &str = "expected an integer, {} {} {}";
 
@@ -51,25 +53,25 @@ const NO_ACTION: &str = "an action is nothing, or begins with novac, findvac, ro
 const NO_STEP: &str =
     "before its last line a job asks for novac, findvac, prio, store, list or phase";
 
-/// The kinds of lines that a text of this form may be, and what is said of one that begins like
+/// The kinds of lines that a text of this form may be, and the sentence for one that begins like
 /// none of them.
-fn kinds_of(form: Form) -> (&'static [Kind], &'static str) {
+fn kinds_of(form: TextForm) -> (&'static [LineForm], &'static str) {
     match form {
-        Form::Request => (&REQUESTS, NO_REQUEST),
-        Form::Action => (&ACTIONS, NO_ACTION),
-        Form::Job => (&JOBS, "a job begins with novac or findvac"),
-        Form::Listing => (&LISTINGS, "a task begins with list"),
-        Form::Leaving => (&LEAVINGS, "a job leaves by end or sleep"),
-        Form::Step => (&STEPS, NO_STEP),
-        Form::Address => (&[], Part::Address.spelling()),
-        Form::Word => (&[], Part::Word.spelling()),
-        Form::Device => (&[], "a line is timer, key or radar"),
-        Form::Name => (&[], "a name is one line, without control characters"),
+        TextForm::Request => (&REQUESTS, NO_REQUEST),
+        TextForm::Action => (&ACTIONS, NO_ACTION),
+        TextForm::Job => (&JOBS, "a job begins with novac or findvac"),
+        TextForm::Listing => (&LISTINGS, "a task begins with list"),
+        TextForm::Leaving => (&LEAVINGS, "a job leaves by end or sleep"),
+        TextForm::Step => (&STEPS, NO_STEP),
+        TextForm::Address => (&[], LineWord::Address.spelling()),
+        TextForm::Word => (&[], LineWord::Word.spelling()),
+        TextForm::Device => (&[], "a line is timer, key or radar"),
+        TextForm::Name => (&[], "a name is one line, without control characters"),
     }
 }
 
-/// What was expected in the place of a text that should be of this form.
-fn expected_form(form: Form, text: &str) -> Said<'static> {
+/// The sentence that says which form a text should have.
+fn expected_form(form: TextForm, text: &str) -> Message<'static> {
     let (kinds, other) = kinds_of(form);
     let fault = if kinds.is_empty() {
         LineFault::Unknown(None)
@@ -77,24 +79,24 @@ fn expected_form(form: Form, text: &str) -> Said<'static> {
         fault_of(kinds, text)
     };
     match fault {
-        LineFault::Unknown(None) => said(other, NONE, NONE),
-        fault => fault.said(),
+        LineFault::Unknown(None) => message_of(other, NONE, NONE),
+        fault => fault.message_of(),
     }
 }
 
-/// Which numbers are meant, from one to another, and then the other again, and the key's name.
-fn range(low: u64, high: u64, name: Piece<'static>) -> [Piece<'static>; 5] {
+/// The pieces for a range of numbers: from one to another, the other again, and the key's name.
+fn range(low: u64, high: u64, name: Part<'static>) -> [Part<'static>; 5] {
     let between = if high.saturating_sub(low) == 1 {
         "or"
     } else {
         "to"
     };
-    let last = Piece::Number(high);
-    [Piece::Number(low), Piece::Text(between), last, last, name]
+    let last = Part::Number(high);
+    [Part::Number(low), Part::Text(between), last, last, name]
 }
 
-/// What is said of the value of a key that has to be an integer, or may be something else.
-fn integer_said(key: Key) -> &'static str {
+/// The sentence for a key whose value must be an integer, or may be something else, too.
+fn integer_message(key: Key) -> &'static str {
     if key.name() == COST.name() {
         INTEGER_OR_TABLE
     } else if key.name() == STEAL.name() {
@@ -104,29 +106,28 @@ fn integer_said(key: Key) -> &'static str {
     }
 }
 
-/// What the value of a key has to be.
-fn expected_value(key: Key) -> Said<'static> {
-    let name = Piece::Text(key.name());
+/// The sentence that says what the value of a key must be.
+fn expected_value(key: Key) -> Message<'static> {
+    let name = Part::Text(key.name());
     match key.kind() {
-        Valued::Integer(low, high) => (integer_said(key), range(low, high, name)),
-        Valued::Flag => said("expected true or false", NONE, NONE),
-        Valued::Text(_form) => said("expected a string", NONE, NONE),
+        Valued::Integer(low, high) => (integer_message(key), range(low, high, name)),
+        Valued::Flag => message_of("expected true or false", NONE, NONE),
+        Valued::Text(_form) => message_of("expected a string", NONE, NONE),
         Valued::OneOrMore(_form, low, high) => (ONE_OR_MORE, range(low, high, name)),
-        Valued::Texts(_form, 0, _most) => said("expected an array of strings", NONE, NONE),
-        Valued::Texts(_form, count, _most) => said(TEXTS, Piece::Number(count), NONE),
-        Valued::Tables(_least, u64::MAX) => said(TABLES, name, NONE),
+        Valued::Texts(_form, 0, _most) => message_of("expected an array of strings", NONE, NONE),
+        Valued::Texts(_form, count, _most) => message_of(TEXTS, Part::Number(count), NONE),
+        Valued::Tables(_least, u64::MAX) => message_of(TABLES, name, NONE),
         Valued::Tables(_least, most) | Valued::Explored(_least, most) => {
-            said(FEW_TABLES, Piece::Number(most), name)
+            message_of(FEW_TABLES, Part::Number(most), name)
         }
     }
 }
 
-/// Appends how octal digits without quotes are to be written, where the text of what is wrong is
-/// such digits.
-fn add_quoted(told: &mut String, wrong: Wrong, text: &str) -> Result<(), AllocError> {
+/// Appends how octal digits without quotes must be written, if the finding's text is such digits.
+fn add_quoted(out: &mut String, wrong: Problem, text: &str) -> Result<(), AllocError> {
     let is_text = !matches!(
         wrong,
-        Wrong::NoQuotes | Wrong::Key(KeyFault::Value(_) | KeyFault::Item(_))
+        Problem::NoQuotes | Problem::Key(KeyFault::Value(_) | KeyFault::Item(_))
     );
     if is_text || text.bytes().any(|byte| !matches!(byte, b'0'..=b'7')) {
         return Ok(());
@@ -139,8 +140,8 @@ fn add_quoted(told: &mut String, wrong: Wrong, text: &str) -> Result<(), AllocEr
         5 => "",
         _ => return Ok(()),
     };
-    let digits = [Piece::Text(zeros), Piece::Text(text)];
-    put(told, ": write \"{}{}\"", &digits)
+    let digits = [Part::Text(zeros), Part::Text(text)];
+    put(out, ": write \"{}{}\"", &digits)
 }
 
 /// The keys of a table of this level.
@@ -162,7 +163,7 @@ fn keys_of(level: Level) -> &'static [Key] {
     }
 }
 
-/// The level of the document that has tables of this level.
+/// The top level of the document that has tables of this level.
 fn top_of(level: Level) -> Level {
     match level {
         Level::Bench | Level::Task | Level::Phase => Level::Bench,
@@ -171,9 +172,9 @@ fn top_of(level: Level) -> Level {
     }
 }
 
-/// What is said of a key that is unknown in a table of this level.
-fn said_of_unknown<'a>(level: Level, name: &'a str) -> Said<'a> {
-    let is_key_of = |level: Level| called(name, keys_of(level)).is_some();
+/// The sentence for a key that is unknown in a table of this level.
+fn unknown_key_message<'a>(level: Level, name: &'a str) -> Message<'a> {
+    let is_key_of = |level: Level| with_name(name, keys_of(level)).is_some();
     let (text, meant) = if level != top_of(level) && is_key_of(top_of(level)) {
         (ABOVE_TABLES, "")
     } else if level == Level::Bench && is_key_of(Level::Scenario) {
@@ -186,13 +187,13 @@ fn said_of_unknown<'a>(level: Level, name: &'a str) -> Said<'a> {
             None => ("unknown key \"{}\"", ""),
         }
     };
-    said(text, Piece::Front(name), Piece::Text(meant))
+    message_of(text, Part::Front(name), Part::Text(meant))
 }
 
-/// What is said of what is wrong with a key.
-fn said_of_key<'a>(fault: KeyFault, text: &'a str) -> Said<'a> {
+/// The sentence for a fault of a key.
+fn key_message<'a>(fault: KeyFault, text: &'a str) -> Message<'a> {
     let (text, name) = match fault {
-        KeyFault::Unknown(level) => return said_of_unknown(level, text),
+        KeyFault::Unknown(level) => return unknown_key_message(level, text),
         KeyFault::Value(key) => return expected_value(key),
         KeyFault::Missing(key) => ("the key \"{}\" is missing", key.name()),
         KeyFault::Item(key) => match key.kind() {
@@ -213,98 +214,107 @@ fn said_of_key<'a>(fault: KeyFault, text: &'a str) -> Said<'a> {
         ),
         KeyFault::NoneAbove => ("no event above this one has that name", ""),
     };
-    said(text, Piece::Text(name), NONE)
+    message_of(text, Part::Text(name), NONE)
 }
 
-/// What is said of what is wrong with a bench at one place, where it has this text.
-fn said_of<'a>(wrong: Wrong, text: &'a str) -> Said<'a> {
+/// The sentence for an error at one place of a bench, whose text is this.
+fn fault_message<'a>(wrong: Problem, text: &'a str) -> Message<'a> {
     let said_so = match wrong {
-        Wrong::Key(fault) => return said_of_key(fault, text),
-        Wrong::Text(form) => return expected_form(form, text),
-        Wrong::NotToml => "not TOML: {}",
-        Wrong::NoQuotes => "not TOML: five octal digits need quotes",
-        Wrong::NoKeys => "this looks like a script, not a bench: use check --script",
-        Wrong::TaskTwice => "an earlier task has the same at and bank",
-        Wrong::PhaseTwice => "an earlier phase has the same group and phase",
-        Wrong::TooManyAreas => "each of the six groups has a job that wants a VAC area",
+        Problem::Key(fault) => return key_message(fault, text),
+        Problem::Text(form) => return expected_form(form, text),
+        Problem::NotToml => "not TOML: {}",
+        Problem::NoQuotes => "not TOML: five octal digits need quotes",
+        Problem::NoKeys => "this looks like a script, not a bench: use check --script",
+        Problem::TaskTwice => "an earlier task has the same at and bank",
+        Problem::PhaseTwice => "an earlier phase has the same group and phase",
+        Problem::TooManyAreas => "each of the six groups has a job that wants a VAC area",
     };
-    said(said_so, Piece::Text(text), NONE)
+    message_of(said_so, Part::Text(text), NONE)
 }
 
-/// Appends what is wrong with a bench at one place, where it has this text.
-fn add_wrong(told: &mut String, wrong: Wrong, text: &str) -> Result<(), AllocError> {
-    if let Wrong::Text(_form) = wrong {
-        put(told, "\"{}\": ", &[Piece::Front(text)])?;
+/// Appends the sentence for an error at one place of a bench, whose text is this.
+fn add_wrong(out: &mut String, wrong: Problem, text: &str) -> Result<(), AllocError> {
+    if let Problem::Text(_form) = wrong {
+        put(out, "\"{}\": ", &[Part::Front(text)])?;
     }
-    let (said_so, pieces) = said_of(wrong, text);
-    put(told, said_so, &pieces)?;
-    add_quoted(told, wrong, text)
+    let (said_so, pieces) = fault_message(wrong, text);
+    put(out, said_so, &pieces)?;
+    add_quoted(out, wrong, text)
 }
 
-/// What an item of a key's array is called.
+/// The name of an item of a key's array.
 fn item_name(key: Key) -> &'static str {
     match key.form() {
-        Some(Form::Word) => "word",
-        Some(Form::Request) | Some(Form::Step) => "request",
-        Some(Form::Action) => "action",
+        Some(TextForm::Word) => "word",
+        Some(TextForm::Request) | Some(TextForm::Step) => "request",
+        Some(TextForm::Action) => "action",
         _ => "item",
     }
 }
 
-/// How a place is said, with a colon where it isn't the whole document.
-fn said_of_place(place: Place) -> Said<'static> {
+/// The sentence for a place, with a colon unless it is the whole document.
+fn location_text(place: Location) -> Message<'static> {
     let (text, key, pieces) = match place {
-        Place::Whole => return said("", NONE, NONE),
-        Place::Value(key) => ("{}: ", key, [NONE; 3]),
-        Place::Item(key, item) => {
-            let pieces = [Piece::Text(item_name(key)), Piece::Number(item), NONE];
+        Location::Whole => return message_of("", NONE, NONE),
+        Location::Value(key) => ("{}: ", key, [NONE; 3]),
+        Location::Item(key, item) => {
+            let pieces = [Part::Text(item_name(key)), Part::Number(item), NONE];
             ("{}, {} {}: ", key, pieces)
         }
-        Place::Table(key, table) => ("{} {}: ", key, [Piece::Number(table), NONE, NONE]),
-        Place::Field(key, table, field) => {
-            let pieces = [Piece::Number(table), Piece::Text(field.name()), NONE];
+        Location::Table(key, table) => ("{} {}: ", key, [Part::Number(table), NONE, NONE]),
+        Location::Field(key, table, field) => {
+            let pieces = [Part::Number(table), Part::Text(field.name()), NONE];
             ("{} {}, {}: ", key, pieces)
         }
-        Place::FieldItem(key, table, field, item) => {
-            let name = Piece::Text(item_name(field));
+        Location::FieldItem(key, table, field, item) => {
+            let name = Part::Text(item_name(field));
             (
                 "{} {}, {} {}: ",
                 key,
-                [Piece::Number(table), name, Piece::Number(item)],
+                [Part::Number(table), name, Part::Number(item)],
             )
         }
-        Place::Subfield(key, table, field, of) => {
-            let (field, of) = (Piece::Text(field.name()), Piece::Text(of.name()));
-            ("{} {}, {}, {}: ", key, [Piece::Number(table), field, of])
+        Location::Subfield(key, table, field, of) => {
+            let (field, of) = (Part::Text(field.name()), Part::Text(of.name()));
+            ("{} {}, {}, {}: ", key, [Part::Number(table), field, of])
         }
     };
     let [first, second, third] = pieces;
-    (text, [Piece::Text(key.name()), first, second, third, NONE])
+    (text, [Part::Text(key.name()), first, second, third, NONE])
 }
 
-/// Appends the number of a document's line, a mark, and a place. Source: profile.
+/// Appends the number of a document's line, a mark, and a place.
 ///
 /// # Errors
 ///
-/// Where there is no memory.
-pub fn add_where(told: &mut String, line: u64, mark: &str, place: Place) -> Result<(), AllocError> {
-    let front = [Piece::Number(line), Piece::Text(mark)];
-    put(told, "line {}: {}", &front)?;
-    let (text, pieces) = said_of_place(place);
-    put(told, text, &pieces)
+/// If memory runs out.
+pub fn add_where(
+    out: &mut String,
+    line: u64,
+    mark: &str,
+    place: Location,
+) -> Result<(), AllocError> {
+    put(out, "{}: {}", &[Part::Number(line), Part::Text(mark)])?;
+    let (text, pieces) = location_text(place);
+    put(out, text, &pieces)
 }
 
-/// A line for each of the first twenty findings. Source: profile.
+/// A line for each of the first twenty findings. Each begins with this text.
 ///
 /// # Errors
 ///
-/// Where there is no memory.
-pub fn bench_told(alloc: Global, findings: &[Finding]) -> Result<String, AllocError> {
-    let mut told = String::new(alloc);
+/// If memory runs out.
+pub fn bench_messages(
+    alloc: Global,
+    before_line: &str,
+    findings: &[Finding],
+) -> Result<String, AllocError> {
+    let mut out = String::new(alloc);
     for finding in findings.iter().take(MOST_TOLD) {
-        add_where(&mut told, finding.line, "", finding.place)?;
-        add_wrong(&mut told, finding.wrong, finding.text.as_str())?;
-        told.push('\n')?;
+        out.push_str(before_line)?;
+        add_where(&mut out, finding.line, "", finding.place)?;
+        add_wrong(&mut out, finding.wrong, finding.text.as_str())?;
+        out.push('\n')?;
     }
-    Ok(told)
+    Ok(out)
 }

@@ -1,15 +1,15 @@
-//! A scenario, or what is wrong with the document that should be one.
+//! A scenario, or the findings of the document that should be one.
 ghost use Rattle.std.specs.Prelude.{IfOk};
 ghost use Rattle.agc_check.specs.Checks.{ChecksAsScenario};
 
 use crate::document::Document;
 use crate::finding::Finding;
-use crate::reading::found_in;
+use crate::reading::findings_in;
 use agc_document::Notes;
 use agc_scenario::{Scenario, scenario_of};
 use std::alloc::{AllocError, Global};
 
-/// The scenario that a document is, or else what is wrong with it.
+/// The scenario that a document is, or its findings.
 #[derive(Drop)]
 pub struct CheckedScenario {
     pub scenario: Option<Scenario>,
@@ -19,11 +19,11 @@ pub struct CheckedScenario {
 /// The scenario that a document is, or why it is none: the same that `read_scenario` says of it.
 /// Nothing is found in a scenario. What is found first has the fault that `read_scenario` returns;
 /// what is wrong with keys comes before what is wrong with texts, each in the order of the
-/// document, and of either at most twenty. Source: profile.
+/// document, and of either at most twenty.
 ///
 /// # Errors
 ///
-/// Where there is no memory.
+/// If memory runs out.
 #[tactic(auto, using(crate::proofs::Scenarios::refused, crate::proofs::Scenarios::accepted))]
 pub fn scenario_findings(
     alloc: Global,
@@ -38,7 +38,7 @@ pub fn scenario_findings(
             findings: Vec::new(alloc),
         }),
         Err(fault) => {
-            let findings = found_in(alloc, document.text(), &notes, fault)?;
+            let findings = findings_in(alloc, document.text(), &notes, fault)?;
             Ok(CheckedScenario {
                 scenario: None,
                 findings,

@@ -5,13 +5,13 @@ ghost use Rattle.toml.specs.View.{table_view};
 ghost use Rattle.agc_check.specs.Documents.{IsNoDocument};
 
 use crate::finding::Finding;
-use crate::reading::found_no_document;
+use crate::reading::no_document_finding;
 use agc_document::table_of;
 use std::alloc::{AllocError, Global};
 use std::marker::Model;
 use toml::Table;
 
-/// A TOML document: its text, and its table. Contracts see its text. Source: profile.
+/// A TOML document: its text, and its table. Contracts see its text.
 #[derive(Drop)]
 pub struct Document<'a> {
     text: &'a str,
@@ -34,7 +34,7 @@ impl<'a> Model for Document<'a> {
 #[derive(Drop)]
 pub enum NoDocument {
     NoMemory,
-    /// It is no TOML, and this is found in it.
+    /// The text is no TOML, for this reason.
     NotToml(Vec<Finding>),
 }
 
@@ -50,7 +50,7 @@ impl From<AllocError> for NoDocument {
 }
 
 impl<'a> Document<'a> {
-    /// The document that a text is. Source: profile.
+    /// The document that a text is.
     ///
     /// # Errors
     ///
@@ -62,20 +62,20 @@ impl<'a> Document<'a> {
         match table_of(alloc, text)? {
             Ok(table) => Ok(Document { text, table }),
             Err(error) => {
-                let found = found_no_document(alloc, text, &error)?;
+                let found = no_document_finding(alloc, text, &error)?;
                 Err(NoDocument::NotToml(found))
             }
         }
     }
 
-    /// Its text. Source: profile.
+    /// Its text.
     pub fn text(&self) -> &'a str
         ensures { result.now ≡ self.now }
     {
         self.text
     }
 
-    /// Its table. Source: profile.
+    /// Its table.
     pub fn table(&self) -> &Table
         ensures { parse_document self.now ≡ Some (table_view result.now) }
     {

@@ -1,36 +1,37 @@
-//! What is found wrong with a document, and where.
+//! The findings of a document, and where they are.
 ghost use Rattle.std.specs.Prelude.{◌≡◌, ◌≤◌, length, map, IfOk, OnOk};
 ghost use Rattle.std.specs.List.{All};
 ghost use Rattle.std.specs.List.Sorted.{IsNonDecreasingBy, IsPermutation};
 ghost use Rattle.agc_check.specs.Findings.{line_ends, line_of, StandsIn, refusal_of};
-ghost use Rattle.agc_check.specs.Findings.{IsFound, AreFound, Said, say, said, of_key, of_text};
-ghost use Rattle.agc_check.specs.declared.wrong.Wrong.TheVariants as wrong_of;
+ghost use Rattle.agc_check.specs.Findings.{IsFindingOf, AreFindingsOf, Message, say, message_of};
+ghost use Rattle.agc_check.specs.Findings.{of_key, of_text};
+ghost use Rattle.agc_check.specs.declared.problem.Problem.TheVariants as wrong_of;
 ghost use Rattle.agc_document.specs.declared.fault.BenchFault.{BenchFault};
 ghost use Rattle.agc_document.specs.declared.fault.BenchFault.TheVariants as refusal;
-ghost use Rattle.agc_document.specs.declared.place.Place.TheVariants as place_of;
+ghost use Rattle.agc_document.specs.declared.location.Location.TheVariants as place_of;
 
-use crate::locate::{Located, Spot, spots_of};
-use crate::wrong::Wrong;
-use agc_document::{Form, KeyFault, KeyNote, Place, TextNote};
+use crate::locate::{HasPath, Position, spots_of};
+use crate::problem::Problem;
+use agc_document::{KeyFault, KeyNote, Location, TextForm, TextNote};
 use std::alloc::{AllocError, Global};
 use std::marker::Model;
 
-/// Why a document is no bench: the byte at which that is, the number of its line, from 1, where in
-/// the bench that is, the text that is told, and what is wrong. Source: profile.
+/// A reason why a document is no bench: its byte, the number of the line, from 1, the place in the
+/// bench, the text to quote, and the error.
 #[derive(Drop)]
 pub struct Finding {
     pub at: usize,
     pub line: u64,
-    pub place: Place,
+    pub place: Location,
     pub text: String,
-    pub wrong: Wrong,
+    pub wrong: Problem,
 }
 
 impl Model for Finding {
     ghost use Rattle.std.specs.Prelude.{string_bytes};
-    ghost use Rattle.agc_check.specs.Findings.{Found};
+    ghost use Rattle.agc_check.specs.Findings.{FindingView};
 
-    ghost Value = { Found };
+    ghost Value = { FindingView };
 
     ghost view = { λ f. record {
       at = f.at;
@@ -41,7 +42,7 @@ impl Model for Finding {
     } };
 }
 
-/// How many lines end in a text.
+/// The number of line ends in a text.
 fn line_ends(text: &[u8]) -> u64
     ensures value { result ≡ line_ends text.now }
     ensures few { result ≤ length text.now }
@@ -55,8 +56,8 @@ fn line_ends(text: &[u8]) -> u64
     count
 }
 
-/// The number of the line of a document in which this byte stands: the last, where the document
-/// ends before it. Source: profile.
+/// The number of the line that has this byte of a document; the last line if the document ends
+/// before it.
 #[tactic(auto, using(crate::proofs::Lines::ends_before))]
 pub fn line_at(document: &str, at: usize) -> u64
     ensures line { result ≡ line_of document.now at }
@@ -66,54 +67,54 @@ pub fn line_at(document: &str, at: usize) -> u64
     line_ends(&bytes[..at.min(bytes.len())]) + 1
 }
 
-/// What is told of one byte of a document: where in the bench it stands, its text, and what is
-/// wrong there.
+/// A report on one byte of a document: its place in the bench, its text, and the error there.
 #[derive(Clone, Copy)]
-pub(crate) struct Told<'a> {
+pub(crate) struct FindingText<'a> {
     pub at: usize,
-    pub place: Place,
+    pub place: Location,
     pub text: &'a str,
-    pub wrong: Wrong,
+    pub wrong: Problem,
 }
 
-impl<'a> Told<'a> {
-    /// What is told of the document as a whole, at one of its bytes.
-    pub(crate) fn of_whole(at: usize, text: &'a str, wrong: Wrong) -> Told<'a>
+impl<'a> FindingText<'a> {
+    /// A report on the document as a whole, at one of its bytes.
+    pub(crate) fn of_whole(at: usize, text: &'a str, wrong: Problem) -> FindingText<'a>
         ensures at { result.at ≡ at }
         ensures place { result.place ≡ place_of.Whole }
         ensures text { result.text.now ≡ text.now }
         ensures wrong { result.wrong ≡ wrong }
     {
-        Told {
+        FindingText {
             at,
-            place: Place::Whole,
+            place: Location::Whole,
             text,
             wrong,
         }
     }
 }
 
-/// What is found at one byte of a document.
+/// Makes the finding at one byte of a document.
 pub(crate) fn make_finding(
     alloc: Global,
     document: &str,
-    told: Told<'_>,
+    finding_text: FindingText<'_>,
 ) -> Result<Finding, AllocError>
-    ensures found { IfOk result (λ f. IsFound document.now (refusal_of told.entry.wrong) f) }
-    ensures says { IfOk result (λ f. said f
-        ≡ say told.entry.place told.entry.wrong told.entry.text.now) }
+    ensures found { IfOk result (λ f. IsFindingOf document.now
+        (refusal_of finding_text.entry.wrong) f) }
+    ensures says { IfOk result (λ f. message_of f
+        ≡ say finding_text.entry.place finding_text.entry.wrong finding_text.entry.text.now) }
 {
-    let at = told.at.min(document.len());
+    let at = finding_text.at.min(document.len());
     Ok(Finding {
         at,
         line: line_at(document, at),
-        place: told.place,
-        text: String::from_str(alloc, told.text)?,
-        wrong: told.wrong,
+        place: finding_text.place,
+        text: String::from_str(alloc, finding_text.text)?,
+        wrong: finding_text.wrong,
     })
 }
 
-/// Brings findings in the order of the document.
+/// Sorts findings by their place in the document.
 fn put_in_order(findings: &mut Vec<Finding>) -> Result<(), AllocError>
     ensures order { OnOk result (IsNonDecreasingBy (λ f. f.at) findings.new.items) }
     ensures same { IsPermutation findings.old.items findings.new.items }
@@ -123,12 +124,12 @@ fn put_in_order(findings: &mut Vec<Finding>) -> Result<(), AllocError>
     Ok(())
 }
 
-/// Whether a value in which this byte comes next goes on with it.
+/// Whether a value goes on if this byte comes next.
 fn goes_on(byte: u8) -> bool {
     byte.is_ascii_alphanumeric() || matches!(byte, b'_' | b'.' | b':' | b'-' | b'+')
 }
 
-/// The digits at a byte of a document, if they are a value by themselves; else nothing.
+/// The digits at a byte of a document if they are a value of their own; otherwise nothing.
 fn digits_at(document: &str, at: usize) -> &str {
     let rest = document.get(at..).unwrap_or("");
     let count = rest
@@ -142,8 +143,8 @@ fn digits_at(document: &str, at: usize) -> &str {
     }
 }
 
-/// The text that is told of what is wrong with a key.
-fn told_text<'a>(document: &'a str, note: &KeyNote<'a>, spot: Spot) -> &'a str
+/// The text to quote for a fault of a key.
+fn key_text<'a>(document: &'a str, note: &KeyNote<'a>, spot: Position) -> &'a str
     ensures { say note.now.place (wrong_of.Key note.now.fault) result.now ≡ of_key note.now }
 {
     match note.fault {
@@ -153,97 +154,98 @@ fn told_text<'a>(document: &'a str, note: &KeyNote<'a>, spot: Spot) -> &'a str
         KeyFault::Overlap | KeyFault::JobTwice => "",
         KeyFault::LeastAboveMost | KeyFault::NoSeed | KeyFault::NoneAbove => "",
         KeyFault::Value(key) | KeyFault::Item(key) => match key.form() {
-            Some(Form::Address) | Some(Form::Word) => digits_at(document, spot.value),
+            Some(TextForm::Address) | Some(TextForm::Word) => digits_at(document, spot.value),
             _ => "",
         },
     }
 }
 
-/// What was noted of a document: what is wrong with a key, or a text that isn't of its form.
-pub(crate) trait Noted<'a>: Located<'a> + Copy {
-    /// The fault of a bench with which this is wrong.
+/// A note about a document: a fault of a key, or a text that isn't of its form.
+pub(crate) trait Note<'a>: HasPath<'a> + Copy {
+    /// The fault of a bench that has such an error.
     ghost fault: { BenchFault };
 
-    /// What there is to say of it.
-    ghost says: { Self → Said };
+    /// The contents of the finding that reports it.
+    ghost says: { Self → Message };
 
-    /// What is told of it at this spot.
-    fn told(&self, document: &'a str, spot: Spot) -> Told<'a>
+    /// The report on this note at a spot.
+    fn finding_text(&self, document: &'a str, spot: Position) -> FindingText<'a>
         ensures fault { refusal_of result.wrong ≡ fault }
         ensures says { say result.place result.wrong result.text.now ≡ says self.now };
 }
 
-impl<'a> Noted<'a> for KeyNote<'a> {
+impl<'a> Note<'a> for KeyNote<'a> {
     ghost fault = { refusal.Key };
 
     ghost says = { of_key };
 
-    fn told(&self, document: &'a str, spot: Spot) -> Told<'a> {
-        Told {
+    fn finding_text(&self, document: &'a str, spot: Position) -> FindingText<'a> {
+        FindingText {
             at: spot.at,
             place: self.place,
-            text: told_text(document, self, spot),
-            wrong: Wrong::Key(self.fault),
+            text: key_text(document, self, spot),
+            wrong: Problem::Key(self.fault),
         }
     }
 }
 
-impl<'a> Noted<'a> for TextNote<'a> {
+impl<'a> Note<'a> for TextNote<'a> {
     ghost fault = { refusal.Line };
 
     ghost says = { of_text };
 
-    fn told(&self, _document: &'a str, spot: Spot) -> Told<'a> {
-        Told {
+    fn finding_text(&self, _document: &'a str, spot: Position) -> FindingText<'a> {
+        FindingText {
             at: spot.at,
             place: self.place,
             text: self.text,
-            wrong: Wrong::Text(self.form),
+            wrong: Problem::Text(self.form),
         }
     }
 }
 
-/// One of these spots, or the begin where there are fewer.
-fn spot_at(spots: &[Spot], k: usize) -> Spot {
+/// The spot with this number, or the beginning of the document if there are fewer.
+fn spot_at(spots: &[Position], k: usize) -> Position {
     match spots.get(k) {
         Some(spot) => *spot,
-        None => Spot { at: 0, value: 0 },
+        None => Position { at: 0, value: 0 },
     }
 }
 
-/// What is found at these spots.
-fn found_at_spots<'a, N: Noted<'a>>(
+/// The findings at these spots.
+fn findings_at<'a, N: Note<'a>>(
     alloc: Global,
     document: &'a str,
     notes: &[N],
-    spots: &[Spot],
+    spots: &[Position],
 ) -> Result<Vec<Finding>, AllocError>
-    ensures all { IfOk result (λ v. All (IsFound document.now N.fault) v.items) }
+    ensures all { IfOk result (λ v. All (IsFindingOf document.now N.fault) v.items) }
     ensures length { IfOk result (λ v. length v.items ≡ length notes.now) }
-    ensures says { IfOk result (λ v. map said v.items ≡ map N.says notes.now) }
+    ensures says { IfOk result (λ v. map message_of v.items ≡ map N.says notes.now) }
 {
     let mut found: Vec<Finding> = Vec::new(alloc);
     for note in notes {
-        let told = note.told(document, spot_at(spots, found.len()));
-        let one = make_finding(alloc, document, told)?;
+        let finding_text = note.finding_text(document, spot_at(spots, found.len()));
+        let one = make_finding(alloc, document, finding_text)?;
         found.push(one)?;
     }
     Ok(found)
 }
 
-/// What is found of what was noted, in the order of the document.
+/// The findings that report these notes, in the order of the document.
 #[tactic(auto, using(crate::proofs::Found::in_order, crate::proofs::Found::says_in_order))]
-pub(crate) fn findings_of<'a, N: Noted<'a>>(
+pub(crate) fn findings_of<'a, N: Note<'a>>(
     alloc: Global,
     document: &'a str,
     notes: &[N],
 ) -> Result<Vec<Finding>, AllocError>
-    ensures are { IfOk result (λ v. AreFound document.now N.fault v.items) }
+    ensures are { IfOk result (λ v. AreFindingsOf document.now N.fault v.items) }
     ensures length { IfOk result (λ v. length v.items ≡ length notes.now) }
-    ensures says { IfOk result (λ v. IsPermutation (map N.says notes.now) (map said v.items)) }
+    ensures says { IfOk result (λ v. IsPermutation (map N.says notes.now)
+        (map message_of v.items)) }
 {
     let spots = spots_of(alloc, document, notes)?;
-    let mut found = found_at_spots(alloc, document, notes, spots.as_slice())?;
+    let mut found = findings_at(alloc, document, notes, spots.as_slice())?;
     put_in_order(&mut found)?;
     Ok(found)
 }

@@ -1,5 +1,5 @@
-//! What is said of what is wrong with a script or a bench, and of what is worth a second look in a
-//! bench that can be run: in which line, and what was expected there. Source: profile.
+//! The sentences about faults in a script or a bench, and about what in a bench deserves a second
+//! look though it can be run: each with its line, and what was expected there.
 #![tactic(auto)]
 
 mod bench;
@@ -8,33 +8,33 @@ mod document;
 mod explored;
 mod finding;
 mod items;
-mod kind;
 mod line;
+mod line_form;
 mod locate;
+mod messages;
 mod names;
-mod ran;
+mod problem;
 mod reading;
-mod saying;
+mod run_counts;
 mod scenario;
 mod script;
-mod telling;
+mod summary;
 mod warning;
 mod warnings;
-mod wrong;
 
-pub use bench::{add_where, bench_told};
+pub use bench::{add_where, bench_messages};
 pub use checks::{CheckedScenario, scenario_findings};
 pub use document::{Document, NoDocument};
-pub use explored::{CheckedExplored, Explored, Flags, explored_findings};
+pub use explored::{CheckedExplored, ExploredBench, Flags, explored_findings};
 pub use finding::{Finding, line_at};
-pub use kind::{Kind, Part};
 pub use line::LineFault;
+pub use line_form::{LineForm, LineWord};
 pub use locate::places_in;
-pub use ran::{Ran, run_subject};
-pub use reading::{Checked, bench_findings, findings, found_in};
-pub use saying::{Piece, Said, add, add_decimal, put, said};
-pub use script::{LineFinding, script_findings, script_told};
-pub use telling::{add_script_summary, report_on};
-pub use warning::Warned;
+pub use messages::{Message, NamedText, Part, add, add_decimal, message_of, put};
+pub use problem::Problem;
+pub use reading::{CheckedBench, bench_findings, findings, findings_in};
+pub use run_counts::{RunCounts, run_subject};
+pub use script::{LineFinding, script_findings, script_messages};
+pub use summary::{add_script_summary, report_on};
+pub use warning::LocatedWarning;
 pub use warnings::warnings_of;
-pub use wrong::Wrong;

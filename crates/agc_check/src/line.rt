@@ -1,24 +1,24 @@
-//! What is wrong with a line, and how that is worded.
-use crate::kind::{Kind, NO_REQUEST, Part, REQUESTS};
-use crate::names::{Named, called, meant_by};
-use crate::saying::{Piece, Said, said};
+//! Faults of lines, and their wording.
+use crate::line_form::{LineForm, LineWord, NO_REQUEST, REQUESTS};
+use crate::messages::{Message, Part, message_of};
+use crate::names::{HasName, meant_by, with_name};
 
-/// Why a line is no request. Source: profile.
+/// Why a line is no request.
 #[derive(Clone, Copy)]
 pub enum LineFault {
     Empty,
-    /// It ends with a carriage return.
+    /// The line ends with a carriage return.
     CarriageReturn,
-    /// A byte order mark stands before it.
+    /// A byte order mark comes before the line.
     ByteOrderMark,
-    /// It is a line of a bench.
+    /// The line belongs to a bench.
     OfBench,
-    /// No line begins so; one that does may be meant.
-    Unknown(Option<Kind>),
-    /// It has more words or fewer, or more than one space.
-    Form(Kind),
-    /// The first part that isn't spelled as it should be.
-    Wrong(Part),
+    /// No line begins with this word. This kind may be meant.
+    Unknown(Option<LineForm>),
+    /// The line has more words or fewer, or more than one space.
+    Form(LineForm),
+    /// The first part of the line that is misspelled.
+    Operand(LineWord),
 }
 
 const BYTE_ORDER_MARK: &str = "it begins with a byte order mark, which a script may not have";
@@ -29,23 +29,23 @@ const MEANT: &str = "its first word is unknown; did you mean \"{}\"?";
 
 const FORM: &str = "it has the form \"{}\", with single spaces";
 
-/// What is wrong with a line of this kind.
-fn wrong_words(text: &str, kind: Kind) -> LineFault {
+/// The fault of a line of this kind.
+fn wrong_words(text: &str, kind: LineForm) -> LineFault {
     let form = kind.form();
     if text.split(' ').count() == form.split(' ').count() {
         for (letter, word) in form.split(' ').zip(text.split(' ')) {
-            if let Some(part) = Part::of(letter)
+            if let Some(part) = LineWord::of(letter)
                 && !part.is_spelled(word)
             {
-                return LineFault::Wrong(part);
+                return LineFault::Operand(part);
             }
         }
     }
     LineFault::Form(kind)
 }
 
-/// What is wrong with a line that should be of one of these kinds, and isn't.
-pub(crate) fn fault_of(kinds: &[Kind], text: &str) -> LineFault {
+/// The fault of a line that should be of one of these kinds, and isn't.
+pub(crate) fn fault_of(kinds: &[LineForm], text: &str) -> LineFault {
     if text.is_empty() {
         return LineFault::Empty;
     }
@@ -53,13 +53,13 @@ pub(crate) fn fault_of(kinds: &[Kind], text: &str) -> LineFault {
         return LineFault::CarriageReturn;
     }
     let (word, _rest) = text.split_once(' ').unwrap_or((text, ""));
-    match called(word, kinds) {
+    match with_name(word, kinds) {
         None => LineFault::Unknown(meant_by(word, kinds)),
         Some(kind) => wrong_words(text, kind),
     }
 }
 
-/// What is wrong with a line of a script that is no request.
+/// The fault of a line of a script that is no request.
 pub(crate) fn script_fault(text: &str) -> LineFault {
     match fault_of(&REQUESTS, text) {
         LineFault::Unknown(_) if text.starts_with('\u{feff}') => LineFault::ByteOrderMark,
@@ -69,8 +69,8 @@ pub(crate) fn script_fault(text: &str) -> LineFault {
 }
 
 impl LineFault {
-    /// What is said of it.
-    pub(crate) fn said(self) -> Said<'static> {
+    /// The sentence for the fault.
+    pub(crate) fn message_of(self) -> Message<'static> {
         let (text, filling) = match self {
             LineFault::Empty => ("a line may not be empty", ""),
             LineFault::CarriageReturn => ("a line ends with LF alone, not with CR LF", ""),
@@ -79,8 +79,8 @@ impl LineFault {
             LineFault::Unknown(None) => (NO_REQUEST, ""),
             LineFault::Unknown(Some(kind)) => (MEANT, kind.name()),
             LineFault::Form(kind) => (FORM, kind.form()),
-            LineFault::Wrong(part) => ("{}", part.spelling()),
+            LineFault::Operand(part) => ("{}", part.spelling()),
         };
-        said(text, Piece::Text(filling), Piece::Text(""))
+        message_of(text, Part::Text(filling), Part::Text(""))
     }
 }

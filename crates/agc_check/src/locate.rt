@@ -1,100 +1,100 @@
-//! Where in its text a document has keys and values.
-use agc_document::{Key, KeyFault, KeyNote, Place, TextNote};
+//! The bytes at which a document's keys and values begin.
+use agc_document::{Key, KeyFault, KeyNote, Location, TextNote};
 use std::alloc::{AllocError, Global};
 use toml_parser::text::{first, skip, skip_blank, skip_ws};
 use toml_parser::{ParseError, dotted_key, quoted, starts_string, unquoted};
 
 /// One step of the way from the document to a value.
 #[derive(Clone, Copy, PartialEq, Eq)]
-enum Step<'a> {
+enum PathStep<'a> {
     Name(&'a str),
-    /// From 1.
+    /// The number of an item, from 1.
     Number(u64),
 }
 
 /// The way to a value, from the document on.
 #[derive(Clone, Copy)]
-pub(crate) struct Way<'a> {
-    steps: [Option<Step<'a>>; 4],
+pub(crate) struct KeyPath<'a> {
+    steps: [Option<PathStep<'a>>; 4],
 }
 
-fn name<'a>(key: Key) -> Option<Step<'a>> {
-    Some(Step::Name(key.name()))
+fn name<'a>(key: Key) -> Option<PathStep<'a>> {
+    Some(PathStep::Name(key.name()))
 }
 
-fn number<'a>(number: u64) -> Option<Step<'a>> {
-    Some(Step::Number(number))
+fn number<'a>(number: u64) -> Option<PathStep<'a>> {
+    Some(PathStep::Number(number))
 }
 
-impl<'a> Way<'a> {
+impl<'a> KeyPath<'a> {
     /// The way to a place.
-    fn to(place: Place) -> Way<'a> {
+    fn to(place: Location) -> KeyPath<'a> {
         let steps = match place {
-            Place::Whole => [None, None, None, None],
-            Place::Value(key) => [name(key), None, None, None],
-            Place::Item(key, k) | Place::Table(key, k) => [name(key), number(k), None, None],
-            Place::Field(key, k, field) => [name(key), number(k), name(field), None],
-            Place::FieldItem(key, k, field, n) => [name(key), number(k), name(field), number(n)],
-            Place::Subfield(key, k, field, of) => [name(key), number(k), name(field), name(of)],
+            Location::Whole => [None, None, None, None],
+            Location::Value(key) => [name(key), None, None, None],
+            Location::Item(key, k) | Location::Table(key, k) => [name(key), number(k), None, None],
+            Location::Field(key, k, field) => [name(key), number(k), name(field), None],
+            Location::FieldItem(key, k, field, n) => [name(key), number(k), name(field), number(n)],
+            Location::Subfield(key, k, field, of) => [name(key), number(k), name(field), name(of)],
         };
-        Way { steps }
+        KeyPath { steps }
     }
 
     /// The way to a key that is unknown in the table at a place.
-    fn to_unknown(place: Place, key: &'a str) -> Way<'a> {
-        let unknown = Some(Step::Name(key));
+    fn to_unknown(place: Location, key: &'a str) -> KeyPath<'a> {
+        let unknown = Some(PathStep::Name(key));
         let steps = match place {
-            Place::Table(tables, k) => [name(tables), number(k), unknown, None],
-            Place::Field(tables, k, field) => [name(tables), number(k), name(field), unknown],
+            Location::Table(tables, k) => [name(tables), number(k), unknown, None],
+            Location::Field(tables, k, field) => [name(tables), number(k), name(field), unknown],
             _ => [unknown, None, None, None],
         };
-        Way { steps }
+        KeyPath { steps }
     }
 }
 
-/// Where a key or an item begins, and where its value does.
+/// The bytes at which a key or an item begins, and its value.
 #[derive(Clone, Copy)]
-pub(crate) struct Spot {
+pub(crate) struct Position {
     pub(crate) at: usize,
     pub(crate) value: usize,
 }
 
-/// A way, how much of it a walk has gone, and where the most of it has led.
+/// A way, how much of it a walk has followed, and the spot that it has come to at most.
 #[derive(Drop)]
-struct Trail<'a> {
-    way: Way<'a>,
+struct PathMatch<'a> {
+    way: KeyPath<'a>,
     /// How many of the way's steps lead to where the walk is, and to the last header.
     gone: usize,
     header_gone: usize,
     /// How many headers of two brackets had the way's first name.
     headers: u64,
-    /// Where the most steps of the way have led, and how many these were.
-    spot: Spot,
+    /// The spot at the end of the most steps that were followed, and their number.
+    spot: Position,
     best: usize,
 }
 
-impl<'a> Trail<'a> {
-    fn new(way: Way<'a>) -> Trail<'a> {
-        Trail {
+impl<'a> PathMatch<'a> {
+    fn new(way: KeyPath<'a>) -> PathMatch<'a> {
+        PathMatch {
             way,
             gone: 0,
             header_gone: 0,
             headers: 0,
-            spot: Spot { at: 0, value: 0 },
+            spot: Position { at: 0, value: 0 },
             best: 0,
         }
     }
 
-    /// Whether all of the way was gone.
-    fn is_found(&self) -> bool {
+    /// Whether the way has been followed to its end.
+    fn is_complete(&self) -> bool {
         match self.way.steps.get(self.best) {
             Some(Some(_step)) => false,
             _ => true,
         }
     }
 
-    /// Goes a step behind so many, which begins here, if it is the way's.
-    fn go(&mut self, step: Step<'_>, length: usize, at: usize) {
+    /// Follows a step that begins here and comes after this many others, if it is the way's next.
+    fn go(&mut self, step: PathStep<'_>, length: usize, at: usize) {
         let is_next = match self.way.steps.get(length) {
             Some(Some(wanted)) => *wanted == step,
             _ => false,
@@ -103,7 +103,7 @@ impl<'a> Trail<'a> {
             self.gone = length.saturating_add(1);
             if self.gone > self.best {
                 self.best = self.gone;
-                self.spot = Spot { at, value: at };
+                self.spot = Position { at, value: at };
             }
         }
     }
@@ -113,12 +113,12 @@ impl<'a> Trail<'a> {
     fn go_to_table(&mut self, begins: bool, at: usize) {
         if self.gone == 1 {
             self.headers = self.headers.saturating_add(u64::from(begins));
-            let number = Step::Number(self.headers);
+            let number = PathStep::Number(self.headers);
             self.go(number, 1, at);
         }
     }
 
-    /// Notes where a value begins, if this is the value of what was found last.
+    /// Notes where a value begins, if it is that of the spot found last.
     fn value(&mut self, length: usize, at: usize) {
         if self.gone == length && self.best == length && self.spot.value == self.spot.at {
             self.spot.value = at;
@@ -126,7 +126,7 @@ impl<'a> Trail<'a> {
     }
 }
 
-/// What comes next in a document.
+/// The next thing that is expected in a document.
 #[derive(Clone, Copy)]
 enum Next {
     /// A header, or a key and its value.
@@ -137,12 +137,12 @@ enum Next {
     Item,
     /// A key of an inline table, or its end.
     Member,
-    /// What follows an item or a member: a comma, or the end.
+    /// After an item or a member: a comma, or the end.
     Comma,
 }
 
-/// An array or an inline table that is open: how many steps lead to it, and how many of its items
-/// have begun.
+/// An array or an inline table that is still open: the number of steps that lead to it, and the
+/// number of its items that have begun.
 #[derive(Clone, Copy)]
 struct Frame {
     is_table: bool,
@@ -152,20 +152,20 @@ struct Frame {
 
 /// A walk through a document, by several ways at once.
 #[derive(Drop)]
-struct Walk<'a> {
+struct DocumentWalk<'a> {
     alloc: Global,
     size: usize,
-    trails: Vec<Trail<'a>>,
+    trails: Vec<PathMatch<'a>>,
     frames: Vec<Frame>,
     next: Next,
-    /// How many steps lead here, and to the last header.
+    /// The number of steps that lead here, and to the last header.
     length: usize,
     header_length: usize,
 }
 
-impl<'a> Walk<'a> {
-    fn new(alloc: Global, text: &str, trails: Vec<Trail<'a>>) -> Walk<'a> {
-        Walk {
+impl<'a> DocumentWalk<'a> {
+    fn new(alloc: Global, text: &str, trails: Vec<PathMatch<'a>>) -> DocumentWalk<'a> {
+        DocumentWalk {
             alloc,
             size: text.len(),
             trails,
@@ -176,12 +176,12 @@ impl<'a> Walk<'a> {
         }
     }
 
-    /// Whether all of each way was gone.
+    /// Whether each way has been followed to its end.
     fn is_done(&self) -> bool {
-        self.trails.iter().all(|trail| trail.is_found())
+        self.trails.iter().all(|trail| trail.is_complete())
     }
 
-    /// Goes back to where so many steps lead.
+    /// Goes back to a shorter path, of this many steps.
     fn go_back(&mut self, length: usize) {
         self.length = length;
         for trail in self.trails.iter_mut() {
@@ -189,8 +189,8 @@ impl<'a> Walk<'a> {
         }
     }
 
-    /// Goes a step that begins here.
-    fn go(&mut self, step: Step<'_>, at: usize) {
+    /// Follows a step that begins here.
+    fn go(&mut self, step: PathStep<'_>, at: usize) {
         let length = self.length;
         for trail in self.trails.iter_mut() {
             trail.go(step, length, at);
@@ -207,17 +207,17 @@ impl<'a> Walk<'a> {
         self.length = self.length.saturating_add(1);
     }
 
-    /// A key that begins here, which may have dots, and what follows it.
+    /// Reads a key that begins here, which may have dots. Returns the rest of the text.
     fn key<'b>(&mut self, text: &'b str, at: usize) -> Result<&'b str, ParseError> {
         let (key, rest) = dotted_key(self.alloc, text)?;
         for part in key.path.as_slice() {
-            self.go(Step::Name(part.as_str()), at);
+            self.go(PathStep::Name(part.as_str()), at);
         }
-        self.go(Step::Name(key.last.as_str()), at);
+        self.go(PathStep::Name(key.last.as_str()), at);
         Ok(rest)
     }
 
-    /// A header, and what follows it.
+    /// Reads a header. Returns the rest of the text.
     fn header<'b>(&mut self, text: &'b str) -> Result<&'b str, ParseError> {
         let at = self.size.saturating_sub(text.len());
         self.go_back(0);
@@ -226,12 +226,12 @@ impl<'a> Walk<'a> {
         let inside = skip_ws(after(inside, b'['));
         let (key, rest) = dotted_key(self.alloc, inside)?;
         for (k, part) in key.path.iter().enumerate() {
-            self.go(Step::Name(part.as_str()), at);
+            self.go(PathStep::Name(part.as_str()), at);
             if k == 0 {
                 self.go_to_table(false, at);
             }
         }
-        self.go(Step::Name(key.last.as_str()), at);
+        self.go(PathStep::Name(key.last.as_str()), at);
         if key.path.is_empty() && is_double {
             self.go_to_table(true, at);
         }
@@ -242,7 +242,7 @@ impl<'a> Walk<'a> {
         Ok(after(after(rest, b']'), b']'))
     }
 
-    /// A key and what stands before its value.
+    /// Reads a key and the sign before its value. Returns the rest of the text.
     fn pair<'b>(&mut self, text: &'b str) -> Result<&'b str, ParseError> {
         let at = self.size.saturating_sub(text.len());
         let rest = skip_ws(after(self.key(text, at)?, b'='));
@@ -254,17 +254,17 @@ impl<'a> Walk<'a> {
         Ok(rest)
     }
 
-    /// The next item of an array begins.
+    /// Begins the next item of an array.
     fn item(&mut self, at: usize) {
         let mut number = 1;
         if let Some(frame) = self.frames.last_mut() {
             frame.items = frame.items.saturating_add(1);
             number = frame.items;
         }
-        self.go(Step::Number(number), at);
+        self.go(PathStep::Number(number), at);
     }
 
-    /// A value has ended.
+    /// Ends a value.
     fn end_value(&mut self) {
         if !self.frames.is_empty() {
             self.next = Next::Comma;
@@ -277,7 +277,7 @@ impl<'a> Walk<'a> {
         }
     }
 
-    /// An array or an inline table begins.
+    /// Begins an array or an inline table.
     fn open(&mut self, is_table: bool) -> Result<(), ParseError> {
         self.frames.push(Frame {
             is_table,
@@ -288,7 +288,7 @@ impl<'a> Walk<'a> {
         Ok(())
     }
 
-    /// A value, or the begin of one that has parts, and what follows.
+    /// Reads a value, or the beginning of one that has parts. Returns the rest of the text.
     fn value<'b>(&mut self, text: &'b str) -> Result<&'b str, ParseError> {
         match first(text) {
             b'[' => {
@@ -319,7 +319,7 @@ impl<'a> Walk<'a> {
         after(text, first(text))
     }
 
-    /// What follows an item or a member.
+    /// Reads past the comma after an item or a member.
     fn comma<'b>(&mut self, text: &'b str) -> &'b str {
         if first(text) != b',' {
             return self.close(text);
@@ -350,7 +350,7 @@ impl<'a> Walk<'a> {
     }
 }
 
-/// What follows this byte, if it is at the front.
+/// The text after this byte, if it is at the front.
 fn after(text: &str, byte: u8) -> &str {
     if first(text) == byte && 0 < byte && byte < 128 {
         skip(text, 1)
@@ -364,11 +364,11 @@ fn without_mark(text: &str) -> &str {
     text.strip_prefix('\u{feff}').unwrap_or(text)
 }
 
-/// How many steps are gone between two looks whether each way is found.
+/// Steps that are followed between two checks whether each way is found.
 const STEPS_BETWEEN: usize = 1024;
 
-/// Walks until each way is found, or the document ends.
-fn walk_all(walk: &mut Walk<'_>, text: &str) -> Result<(), AllocError> {
+/// Walks until each way is found or the document ends.
+fn walk_all(walk: &mut DocumentWalk<'_>, text: &str) -> Result<(), AllocError> {
     let mut rest = without_mark(text);
     for k in 0..=text.len() {
         rest = skip_blank(rest, true);
@@ -384,45 +384,45 @@ fn walk_all(walk: &mut Walk<'_>, text: &str) -> Result<(), AllocError> {
     Ok(())
 }
 
-/// What stands somewhere in a document.
-pub(crate) trait Located<'a> {
-    /// The way there.
-    fn way(&self) -> Way<'a>;
+/// A thing with a place in a document.
+pub(crate) trait HasPath<'a> {
+    /// The way to it.
+    fn way(&self) -> KeyPath<'a>;
 }
 
-impl<'a> Located<'a> for Place {
-    fn way(&self) -> Way<'a> {
-        Way::to(*self)
+impl<'a> HasPath<'a> for Location {
+    fn way(&self) -> KeyPath<'a> {
+        KeyPath::to(*self)
     }
 }
 
-impl<'a> Located<'a> for KeyNote<'a> {
-    fn way(&self) -> Way<'a> {
+impl<'a> HasPath<'a> for KeyNote<'a> {
+    fn way(&self) -> KeyPath<'a> {
         match self.fault {
-            KeyFault::Unknown(_level) => Way::to_unknown(self.place, self.text),
-            _ => Way::to(self.place),
+            KeyFault::Unknown(_level) => KeyPath::to_unknown(self.place, self.text),
+            _ => KeyPath::to(self.place),
         }
     }
 }
 
-impl<'a> Located<'a> for TextNote<'a> {
-    fn way(&self) -> Way<'a> {
-        Way::to(self.place)
+impl<'a> HasPath<'a> for TextNote<'a> {
+    fn way(&self) -> KeyPath<'a> {
+        KeyPath::to(self.place)
     }
 }
 
-/// Where these stand in a document, in their order; of what it hasn't, where as much of the way
-/// there leads as it has.
-pub(crate) fn spots_of<'a, L: Located<'a>>(
+/// The spots of these things in a document, in their order. For a thing that the document lacks, it
+/// is the spot of as much of the way as there is.
+pub(crate) fn spots_of<'a, L: HasPath<'a>>(
     alloc: Global,
     document: &str,
     all: &[L],
-) -> Result<Vec<Spot>, AllocError> {
+) -> Result<Vec<Position>, AllocError> {
     let mut trails = Vec::new(alloc);
     for one in all {
-        trails.push(Trail::new(one.way()))?;
+        trails.push(PathMatch::new(one.way()))?;
     }
-    let mut walk = Walk::new(alloc, document, trails);
+    let mut walk = DocumentWalk::new(alloc, document, trails);
     walk_all(&mut walk, document)?;
     let mut spots = Vec::new(alloc);
     for trail in walk.trails.as_slice() {
@@ -431,16 +431,16 @@ pub(crate) fn spots_of<'a, L: Located<'a>>(
     Ok(spots)
 }
 
-/// Where these places begin in a document, in their order; of one that it hasn't, where as much of
-/// the way there begins as it has. Source: profile.
+/// The bytes at which these places begin in a document, in their order. For a place that the
+/// document lacks, it is the byte of as much of the way as there is.
 ///
 /// # Errors
 ///
-/// Where there is no memory.
+/// If memory runs out.
 pub fn places_in(
     alloc: Global,
     document: &str,
-    places: &[Place],
+    places: &[Location],
 ) -> Result<Vec<usize>, AllocError> {
     let spots = spots_of(alloc, document, places)?;
     let mut places = Vec::new(alloc);

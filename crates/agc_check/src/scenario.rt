@@ -1,25 +1,25 @@
-//! What is warned of the stolen time, jobs and events of a scenario.
-use crate::saying::{Piece, Said, said};
+//! The warnings about stolen time, jobs and events of a scenario.
+use crate::messages::{Message, Part, message_of};
 use crate::warning::{
     AS_LONG_AS_IT_COMES, HIDDEN, LATE, NEVER, NEVER_STOLEN, NOT_AGAIN, NOT_BEGUN, NOTHING_LEFT,
     TWIN,
 };
-use crate::warnings::{Found, plain};
+use crate::warnings::{Warning, WarningList, plain};
 use agc_clock::{LAST_TIME, Stolen, stolen_at};
-use agc_document::{Key, Place};
+use agc_document::{Key, Location};
 use agc_plan::{Action, Actions, Address, JobStart, PhaseEntry, Request, Task, action_request};
 use agc_scenario::rows::{EVENTS, JOBS, STEAL};
 use agc_scenario::{Scenario, TimedEvent, TimedJob, Timing};
 use std::alloc::{AllocError, Global};
 use std::collections::BTreeSet;
 
-/// The place of a row, which is numbered from 0.
-fn row_at(key: Key, row: usize) -> Place {
-    Place::Table(key, (row as u64).saturating_add(1))
+/// The place of a row, which is counted from 0.
+fn row_at(key: Key, row: usize) -> Location {
+    Location::Table(key, (row as u64).saturating_add(1))
 }
 
 /// Whether a job may begin at an address by this request, or be awakened there.
-fn begins(request: &Request, at: Address) -> bool {
+fn may_begin_at(request: &Request, at: Address) -> bool {
     match *request {
         Request::Novac(_priority, entry) | Request::Findvac(_priority, entry) => entry.at == at,
         Request::Sleep(awakened) => awakened == at,
@@ -31,7 +31,7 @@ fn begins(request: &Request, at: Address) -> bool {
 fn is_begun_by(actions: &Actions, at: Address) -> bool {
     for action in actions.as_slice() {
         if let Some(request) = action_request(*action) {
-            if begins(&request, at) {
+            if may_begin_at(&request, at) {
                 return true;
             }
         }
@@ -56,15 +56,18 @@ fn is_begun(scenario: &Scenario, at: Address) -> bool {
     let by_event = timing.all_events().iter().any(|event| event
         .requests()
         .iter()
-        .any(|request| begins(request, at)));
+        .any(|request| may_begin_at(request, at)));
     by_event
         || bench.rows().iter().any(|row| is_begun_by(&row.1, at))
         || bench.entries().iter().any(|entry| begins_again(entry, at))
-        || timing.jobs().iter().any(|job| job.requests().iter().any(|request| begins(request, at)))
+        || timing.jobs().iter().any(|job| job
+            .requests()
+            .iter()
+            .any(|request| may_begin_at(request, at)))
 }
 
-/// How many percent are stolen in every centisecond, at least. Before the first tick nothing is
-/// computed.
+/// The percentage that is stolen in every centisecond, at least. Nothing is computed before the
+/// first tick.
 fn stolen_always(timing: &Timing) -> u64 {
     let mut least = 100;
     for time in 1..=timing.lasts() {
@@ -76,7 +79,7 @@ fn stolen_always(timing: &Timing) -> u64 {
     u64::from(least)
 }
 
-/// The lesser of two numbers, if the first is there.
+/// The smaller of two numbers, of which the first may be missing.
 fn lesser(first: Option<u64>, second: u64) -> Option<u64> {
     match first {
         None => Some(second),
@@ -84,7 +87,7 @@ fn lesser(first: Option<u64>, second: u64) -> Option<u64> {
     }
 }
 
-/// After how many centiseconds a task lists itself again by one of these actions.
+/// The centiseconds after which a task lists itself again by one of these actions.
 fn period_of(task: Task, actions: &Actions) -> Option<u64> {
     let mut least = None;
     for action in actions.as_slice() {
@@ -98,12 +101,16 @@ fn period_of(task: Task, actions: &Actions) -> Option<u64> {
     least
 }
 
-/// After how many centiseconds a job begins again at an address by an event.
+/// The centiseconds after which an event begins a job again at an address.
 fn period_by_events(timing: &Timing, at: Address) -> Option<u64> {
     let mut least = None;
     for event in timing.all_events() {
         if let Some(every) = event.every() {
-            if event.requests().iter().any(|request| begins(request, at)) {
+            if event
+                .requests()
+                .iter()
+                .any(|request| may_begin_at(request, at))
+            {
                 least = lesser(least, u64::from(every));
             }
         }
@@ -111,8 +118,8 @@ fn period_by_events(timing: &Timing, at: Address) -> Option<u64> {
     least
 }
 
-/// After how many centiseconds a job begins again at an address: the least such number of an event
-/// or a task.
+/// The shortest time, in centiseconds, after which an event or a task begins a job again at an
+/// address.
 fn period_at(scenario: &Scenario, at: Address) -> Option<u64> {
     let mut least = period_by_events(scenario.timing(), at);
     for (task, actions) in scenario.bench().rows() {
@@ -125,18 +132,18 @@ fn period_at(scenario: &Scenario, at: Address) -> Option<u64> {
     least
 }
 
-/// What is said of a job for which nothing is left.
-fn nothing_left(cost: u64, period: u64, stolen: u64) -> Said<'static> {
-    let (cost, period) = (Piece::Number(cost), Piece::Number(period));
+/// The sentence for a job that is left no time.
+fn nothing_left(cost: u64, period: u64, stolen: u64) -> Message<'static> {
+    let (cost, period) = (Part::Number(cost), Part::Number(period));
     if stolen == 0 {
-        return said(AS_LONG_AS_IT_COMES, cost, period);
+        return message_of(AS_LONG_AS_IT_COMES, cost, period);
     }
-    let stolen = Piece::Number(stolen);
+    let stolen = Part::Number(stolen);
     (NOTHING_LEFT, [cost, period, stolen, stolen, stolen])
 }
 
-/// The warning about a job, if any; this many percent are always stolen.
-fn job_warning(scenario: &Scenario, job: &TimedJob, stolen: u64) -> Option<Said<'static>> {
+/// The warning about a job, if there is one; this percentage is always stolen.
+fn job_warning(scenario: &Scenario, job: &TimedJob, stolen: u64) -> Option<Message<'static>> {
     if !is_begun(scenario, job.at()) {
         return Some(plain(NOT_BEGUN));
     }
@@ -150,9 +157,9 @@ fn job_warning(scenario: &Scenario, job: &TimedJob, stolen: u64) -> Option<Said<
     }
 }
 
-/// The first centisecond after all those of a scenario in which a row of stolen time that repeats
+/// The first centisecond after all those of a scenario in which a repeating row of stolen time
 /// would hold.
-fn ceases(again: &Stolen, lasts: u32) -> u32 {
+fn end_of_repeats(again: &Stolen, lasts: u32) -> u32 {
     let rest = again.until.min(lasts).saturating_sub(again.from);
     let beats = rest.checked_div(again.every).unwrap_or(0);
     let last_beat = again.to.saturating_add(beats.saturating_mul(again.every));
@@ -162,11 +169,11 @@ fn ceases(again: &Stolen, lasts: u32) -> u32 {
 /// Whether a row of stolen time that doesn't repeat always holds when one that repeats would.
 fn hides(row: &Stolen, again: &Stolen, lasts: u32) -> bool {
     let is_repeated = row.every == 0 && again.every != 0;
-    is_repeated && row.from <= again.from && ceases(again, lasts) <= row.to
+    is_repeated && row.from <= again.from && end_of_repeats(again, lasts) <= row.to
 }
 
-/// The warning about a row of stolen time, if any; rows are numbered from 0.
-fn row_warning(timing: &Timing, number: usize, row: &Stolen) -> Option<Said<'static>> {
+/// The warning about a row of stolen time, if there is one; rows are counted from 0.
+fn row_warning(timing: &Timing, number: usize, row: &Stolen) -> Option<Message<'static>> {
     let mut earlier = timing.stolen().iter().take(number);
     if row.every == 0 && row.until < LAST_TIME {
         Some(plain(NOT_AGAIN))
@@ -179,8 +186,8 @@ fn row_warning(timing: &Timing, number: usize, row: &Stolen) -> Option<Said<'sta
     }
 }
 
-/// What is warned of an event.
-fn event_warning(timing: &Timing, event: &TimedEvent) -> Option<Said<'static>> {
+/// The warning about an event, if there is one.
+fn event_warning(timing: &Timing, event: &TimedEvent) -> Option<Message<'static>> {
     if event.first() > timing.lasts() {
         return Some(plain(LATE));
     }
@@ -194,7 +201,7 @@ fn event_warning(timing: &Timing, event: &TimedEvent) -> Option<Said<'static>> {
     }
 }
 
-/// Whether a name is there, and was there before.
+/// Whether there is a name, and an earlier row has it.
 fn is_twin<'a>(names: &mut BTreeSet<&'a str>, name: Option<&'a str>) -> Result<bool, AllocError> {
     match name {
         None => Ok(false),
@@ -202,17 +209,21 @@ fn is_twin<'a>(names: &mut BTreeSet<&'a str>, name: Option<&'a str>) -> Result<b
     }
 }
 
-/// Notes what is warned of the rows of stolen time of a scenario.
-fn note_rows(found: &mut Found, timing: &Timing) {
+/// Notes the warnings about the rows of stolen time of a scenario.
+fn note_rows(found: &mut WarningList, timing: &Timing) {
     for (k, row) in timing.stolen().iter().enumerate() {
         if let Some(warning) = row_warning(timing, k, row) {
-            found.note(row_at(STEAL, k), (warning, None));
+            found.note(row_at(STEAL, k), Warning::repeatable(warning));
         }
     }
 }
 
-/// Notes what is warned of the jobs of a scenario.
-fn note_jobs(alloc: Global, found: &mut Found, scenario: &Scenario) -> Result<(), AllocError> {
+/// Notes the warnings about the jobs of a scenario.
+fn note_jobs(
+    alloc: Global,
+    found: &mut WarningList,
+    scenario: &Scenario,
+) -> Result<(), AllocError> {
     let stolen = stolen_always(scenario.timing());
     let mut names = BTreeSet::new(alloc);
     for (k, job) in scenario.timing().jobs().iter().enumerate() {
@@ -220,38 +231,38 @@ fn note_jobs(alloc: Global, found: &mut Found, scenario: &Scenario) -> Result<()
         if is_twin(&mut names, job.name())? {
             found.note(
                 place,
-                (said(TWIN, Piece::Text("job"), Piece::Text("")), None),
+                Warning::repeatable(message_of(TWIN, Part::Text("job"), Part::Text(""))),
             );
         }
         if let Some(warning) = job_warning(scenario, job, stolen) {
-            found.note(place, (warning, None));
+            found.note(place, Warning::repeatable(warning));
         }
     }
     Ok(())
 }
 
-/// Notes what is warned of the events of a scenario.
-fn note_events(alloc: Global, found: &mut Found, timing: &Timing) -> Result<(), AllocError> {
+/// Notes the warnings about the events of a scenario.
+fn note_events(alloc: Global, found: &mut WarningList, timing: &Timing) -> Result<(), AllocError> {
     let mut names = BTreeSet::new(alloc);
     for (k, event) in timing.all_events().iter().enumerate() {
         let place = row_at(EVENTS, k);
         if is_twin(&mut names, event.name())? {
             found.note(
                 place,
-                (said(TWIN, Piece::Text("event"), Piece::Text("")), None),
+                Warning::repeatable(message_of(TWIN, Part::Text("event"), Part::Text(""))),
             );
         }
         if let Some(warning) = event_warning(timing, event) {
-            found.note(place, (warning, None));
+            found.note(place, Warning::repeatable(warning));
         }
     }
     Ok(())
 }
 
-/// Notes what is warned of the stolen time, jobs and events of a scenario.
+/// Notes the warnings about the stolen time, jobs and events of a scenario.
 pub(crate) fn note_timing(
     alloc: Global,
-    found: &mut Found,
+    found: &mut WarningList,
     scenario: &Scenario,
 ) -> Result<(), AllocError> {
     note_rows(found, scenario.timing());

@@ -1,19 +1,19 @@
-//! What is wrong with a script.
+//! The findings of a script.
 ghost use Rattle.std.specs.Prelude.{◌≡◌, ℕ, List, IfOk};
 ghost use Rattle.agc_text.specs.Script.{IsFirstRefused, lines_of};
-ghost use Rattle.agc_check.specs.Scripts.{IsTold};
+ghost use Rattle.agc_check.specs.Scripts.{AreLineFindings};
 
 use crate::line::{LineFault, script_fault};
-use crate::saying::{Piece, put};
+use crate::messages::{Part, put};
 use agc_text::{ScriptFault, parse_line, read_script};
 use std::alloc::{AllocError, Global};
 use std::marker::Model;
 
-/// How many faults are told.
+/// The most findings that are reported.
 pub(crate) const MOST_TOLD: usize = 20;
 
-/// A line by its number, from 1, its text, and what is wrong with it. Contracts see the number.
-/// Source: profile.
+/// A line that is no request: its number, from 1, its text, and its fault. Contracts see the
+/// number.
 #[derive(Drop)]
 pub struct LineFinding<'a> {
     pub line: u64,
@@ -29,7 +29,7 @@ impl<'a> Model for LineFinding<'a> {
     ghost view = { λ f. f.line };
 }
 
-/// What is wrong with a line of this number.
+/// The finding for the line with this number.
 fn finding_of<'a>(line: u64, text: &'a str) -> LineFinding<'a>
     ensures { result ≡ line }
 {
@@ -40,8 +40,8 @@ fn finding_of<'a>(line: u64, text: &'a str) -> LineFinding<'a>
     }
 }
 
-/// The lines behind the first so many that are no requests, but one less than are told.
-fn others_behind<'a>(
+/// The lines that are no requests after the first such line, one less than are reported.
+fn wrong_lines_after<'a>(
     alloc: Global,
     text: &'a str,
     count: u64,
@@ -58,66 +58,74 @@ fn others_behind<'a>(
     Ok(findings)
 }
 
-/// The line of this number, which is no request, and those behind it that are none.
-fn found_from<'a>(
+/// The line of this number, which is no request, and further lines that are none.
+fn findings_from<'a>(
     alloc: Global,
     text: &'a str,
     number: u64,
 ) -> Result<Vec<LineFinding<'a>>, AllocError>
     ensures { IfOk result (λ v. (lines : List (List ℕ))
-        → IsFirstRefused lines number → IsTold lines v.items) }
+        → IsFirstRefused lines number → AreLineFindings lines v.items) }
 {
     let line = text
         .split('\n')
         .nth((number as usize).saturating_sub(1))
         .unwrap_or("");
-    let mut findings = others_behind(alloc, text, number)?;
+    let mut findings = wrong_lines_after(alloc, text, number)?;
     findings.insert(0, finding_of(number, line))?;
     Ok(findings)
 }
 
-/// The lines of a script that are no requests, at most twenty, in order, and what is wrong with
-/// each. Source: profile.
+/// The lines of a script that are no requests, at most twenty, in order, each with its fault.
 ///
 /// # Errors
 ///
-/// Where there is no memory.
+/// If memory runs out.
 pub fn script_findings<'a>(alloc: Global, text: &'a str) -> Result<Vec<LineFinding<'a>>, AllocError>
     // Nothing is found where the text is a script; else first its first line that is no request.
-    ensures { IfOk result (λ v. IsTold (lines_of text.now) v.items) }
+    ensures { IfOk result (λ v. AreLineFindings (lines_of text.now) v.items) }
 {
     match read_script(alloc, text) {
         Ok(_requests) => Ok(Vec::new(alloc)),
-        Err(ScriptFault::Line(number)) => found_from(alloc, text, number),
+        Err(ScriptFault::Line(number)) => findings_from(alloc, text, number),
         Err(ScriptFault::NoMemory) => Err(AllocError),
     }
 }
 
-/// Tells of a line of a script.
-fn add_finding(told: &mut String, finding: &LineFinding<'_>) -> Result<(), AllocError> {
-    let shown = [Piece::Number(finding.line), Piece::Front(finding.text)];
-    put(told, "line {}: \"{}\": ", &shown)?;
-    let (text, pieces) = finding.fault.said();
-    put(told, text, &pieces)?;
-    told.push('\n')
+/// Appends the sentence for a line of a script.
+fn add_finding(
+    out: &mut String,
+    before_line: &str,
+    finding: &LineFinding<'_>,
+) -> Result<(), AllocError> {
+    out.push_str(before_line)?;
+    let shown = [Part::Number(finding.line), Part::Front(finding.text)];
+    put(out, "{}: \"{}\": ", &shown)?;
+    let (text, pieces) = finding.fault.message_of();
+    put(out, text, &pieces)?;
+    out.push('\n')
 }
 
-/// A line for each finding; one alone for a line of a bench, which is no script. Source: profile.
+/// A line for each finding; for a bench, which is no script, only one. Each begins with this text.
 ///
 /// # Errors
 ///
-/// Where there is no memory.
-pub fn script_told(alloc: Global, findings: &[LineFinding<'_>]) -> Result<String, AllocError> {
-    let mut told = String::new(alloc);
+/// If memory runs out.
+pub fn script_messages(
+    alloc: Global,
+    before_line: &str,
+    findings: &[LineFinding<'_>],
+) -> Result<String, AllocError> {
+    let mut out = String::new(alloc);
     for finding in findings {
         let is_of_bench = matches!(finding.fault, LineFault::OfBench);
         if is_of_bench {
-            told.clear();
+            out.clear();
         }
-        add_finding(&mut told, finding)?;
+        add_finding(&mut out, before_line, finding)?;
         if is_of_bench {
             break;
         }
     }
-    Ok(told)
+    Ok(out)
 }

@@ -1,14 +1,14 @@
-//! What is warned of, and how it is worded.
-use crate::saying::Said;
-use agc_document::Place;
+//! Warnings, and their wording.
+use crate::messages::Message;
+use agc_document::Location;
 
-/// What a bench has that is no fault, and of which nothing comes, or less than it asks for: where
-/// its reason stands, and what is said of it. Source: profile.
+/// A warning: something in a bench that is no fault, but does nothing, or less than was meant. It
+/// has the place of the cause, and the sentence.
 #[derive(Clone, Copy)]
-pub struct Warned {
-    pub place: Place,
-    pub warning: Said<'static>,
-    /// The numbers of what it is said of, where that isn't said of them twice.
+pub struct LocatedWarning {
+    pub place: Location,
+    pub warning: Message<'static>,
+    /// The numbers for which the warning is given only once, if it is.
     pub(crate) once: Option<(u16, u16)>,
 }
 

@@ -1,13 +1,14 @@
-//! What is warned of in a bench.
+//! The warnings about a bench.
 use crate::items::{Item, items_of};
-use crate::ran::Ran;
-use crate::saying::{Piece, Said, said};
+use crate::messages::{Message, Part, message_of};
+use crate::run_counts::RunCounts;
 use crate::scenario::note_timing;
 use crate::warning::{
-    CUT, LOG_FULL, NEVER_LISTED, NO_ENTRY, NO_REQUEST, NO_ROW, NO_ROWS, OTHER_BANK, SPENT, Warned,
+    CUT, LOG_FULL, LocatedWarning, NEVER_LISTED, NO_ENTRY, NO_REQUEST, NO_ROW, NO_ROWS, OTHER_BANK,
+    SPENT,
 };
 use agc_document::rows::{ALLOWANCE, LIMIT};
-use agc_document::{Bench, Place};
+use agc_document::{Bench, Location};
 use agc_plan::{Group, Line, Phase, PhaseEntry, Task};
 use agc_run::Subject;
 use agc_session::{asks_nothing, line_name};
@@ -15,7 +16,7 @@ use agc_word::Word;
 use std::alloc::{AllocError, Global};
 use std::collections::{BTreeMap, BTreeSet};
 
-/// How many warnings there are at most.
+/// The most warnings that there are.
 const MOST_TOLD: usize = 20;
 
 /// A task's address and bank.
@@ -23,16 +24,37 @@ fn numbers_of(task: &Task) -> (u16, u16) {
     (task.at.get(), task.bank.bits())
 }
 
-/// What is warned of, and the numbers of what it isn't said of twice.
-pub(crate) type Warning = (Said<'static>, Option<(u16, u16)>);
-
-/// What is said without a number.
-pub(crate) fn plain(text: &'static str) -> Said<'static> {
-    said(text, Piece::Text(""), Piece::Text(""))
+/// A warning, and the pair of numbers for which it is given only once.
+#[derive(Clone, Copy)]
+pub(crate) struct Warning {
+    pub(crate) message: Message<'static>,
+    pub(crate) once: Option<(u16, u16)>,
 }
 
-/// The tasks of a bench by their numbers: whether they have a row, and whether anything lists them
-/// but their own actions; and the bank of the first row at each address.
+impl Warning {
+    /// A warning that may be given of the same thing again.
+    pub(crate) fn repeatable(message: Message<'static>) -> Warning {
+        Warning {
+            message,
+            once: None,
+        }
+    }
+
+    fn once_for(message: Message<'static>, numbers: (u16, u16)) -> Warning {
+        Warning {
+            message,
+            once: Some(numbers),
+        }
+    }
+}
+
+/// A sentence without a number.
+pub(crate) fn plain(text: &'static str) -> Message<'static> {
+    message_of(text, Part::Text(""), Part::Text(""))
+}
+
+/// The tasks of a bench by their numbers: whether each has a row, and whether anything but its own
+/// actions lists it; and the bank of the first row at each address.
 #[derive(Drop)]
 struct Tasks {
     known: BTreeSet<(bool, (u16, u16))>,
@@ -41,7 +63,7 @@ struct Tasks {
 
 impl Tasks {
     /// The tasks of a bench that has these items.
-    fn of(alloc: Global, items: &[(Place, Item)]) -> Result<Tasks, AllocError> {
+    fn of(alloc: Global, items: &[(Location, Item)]) -> Result<Tasks, AllocError> {
         let mut tasks = Tasks {
             known: BTreeSet::new(alloc),
             banks: BTreeMap::new(alloc),
@@ -53,7 +75,7 @@ impl Tasks {
     }
 
     /// Adds the tasks of these items.
-    fn add(&mut self, items: &[(Place, Item)]) -> Result<(), AllocError> {
+    fn add(&mut self, items: &[(Location, Item)]) -> Result<(), AllocError> {
         for (_place, item) in items {
             let (is_row, task) = match *item {
                 Item::Lists(task, row) if row != Some(task) => (false, task),
@@ -68,37 +90,37 @@ impl Tasks {
         Ok(())
     }
 
-    /// What is warned of where a task is listed.
+    /// The warning about a task that is listed, if there is one.
     fn warning_of(&self, task: &Task) -> Option<Warning> {
         if self.banks.is_empty() {
-            return Some((plain(NO_ROWS), Some((0, 0))));
+            return Some(Warning::once_for(plain(NO_ROWS), (0, 0)));
         }
         let numbers = numbers_of(task);
         if self.known.contains(&(true, numbers)) {
             return None;
         }
-        let (at, listed) = (Piece::Octal(numbers.0), Piece::Octal(numbers.1));
-        let warning = match self.banks.get(&numbers.0) {
-            None => said(NO_ROW, at, listed),
+        let (at, listed) = (Part::Octal(numbers.0), Part::Octal(numbers.1));
+        let message = match self.banks.get(&numbers.0) {
+            None => message_of(NO_ROW, at, listed),
             Some(bank) => {
-                let bank = Piece::Octal(bank.bits());
+                let bank = Part::Octal(bank.bits());
                 (OTHER_BANK, [at, listed, bank, bank, bank])
             }
         };
-        Some((warning, Some(numbers)))
+        Some(Warning::once_for(message, numbers))
     }
 
-    /// What is warned of a row, where nothing lists its task but its own actions.
+    /// The warning about a row whose task nothing lists but its own actions.
     fn warning_of_row(&self, task: &Task) -> Option<Warning> {
         if self.known.contains(&(false, numbers_of(task))) {
             None
         } else {
-            Some((plain(NEVER_LISTED), None))
+            Some(Warning::repeatable(plain(NEVER_LISTED)))
         }
     }
 }
 
-/// What is warned of where a phase is set.
+/// The warning about a phase that is set.
 fn phase_warning(bench: &Bench, group: Group, phase: Phase) -> Option<Warning> {
     let is_entry = |entry: &PhaseEntry| entry.group() == group && entry.phase() == phase;
     if phase.get() == 0 || bench.entries().iter().any(is_entry) {
@@ -106,19 +128,19 @@ fn phase_warning(bench: &Bench, group: Group, phase: Phase) -> Option<Warning> {
     }
     let (group, phase) = (u16::from(group.get()), u16::from(phase.get()));
     let of = (
-        Piece::Number(u64::from(group)),
-        Piece::Number(u64::from(phase)),
+        Part::Number(u64::from(group)),
+        Part::Number(u64::from(phase)),
     );
-    Some((said(NO_ENTRY, of.0, of.1), Some((group, phase))))
+    Some(Warning::once_for(message_of(NO_ENTRY, of.0, of.1), (group, phase)))
 }
 
-/// What is warned of where a device is.
+/// The warning about a device.
 fn device_warning(bench: &Bench, line: Line) -> Option<Warning> {
-    let warning = said(NO_REQUEST, Piece::Text(line_name(line)), Piece::Text(""));
-    asks_nothing(bench, line).then_some((warning, None))
+    let message = message_of(NO_REQUEST, Part::Text(line_name(line)), Part::Text(""));
+    asks_nothing(bench, line).then_some(Warning::repeatable(message))
 }
 
-/// What is warned of at an item of a bench.
+/// The warning about an item of a bench, if there is one.
 fn warning_of(bench: &Bench, tasks: &Tasks, item: Item) -> Option<Warning> {
     match item {
         Item::Lists(task, _row) => tasks.warning_of(&task),
@@ -128,57 +150,56 @@ fn warning_of(bench: &Bench, tasks: &Tasks, item: Item) -> Option<Warning> {
     }
 }
 
-/// What is warned of, and whether memory ran out for a warning.
+/// The warnings so far, and whether memory ran out for one.
 #[derive(Drop)]
-pub(crate) struct Found {
-    list: Vec<Warned>,
+pub(crate) struct WarningList {
+    list: Vec<LocatedWarning>,
     failed: bool,
 }
 
-impl Found {
-    /// Nothing is found yet.
-    pub(crate) fn new(alloc: Global) -> Found {
-        Found {
+impl WarningList {
+    /// No warnings yet.
+    pub(crate) fn new(alloc: Global) -> WarningList {
+        WarningList {
             list: Vec::new(alloc),
             failed: false,
         }
     }
 
-    /// Whether this was said before of the same numbers.
-    fn is_said(&self, warning: &Warning) -> bool {
-        let ((text, _pieces), once) = *warning;
-        once.is_some()
+    /// Whether this warning was given before for the same numbers.
+    fn is_reported(&self, warning: &Warning) -> bool {
+        let (text, _pieces) = warning.message;
+        warning.once.is_some()
             && self
                 .list
                 .iter()
-                .any(|one| one.once == once && one.warning.0 == text)
+                .any(|one| one.once == warning.once && one.warning.0 == text)
     }
 
-    /// Adds a warning.
-    fn add(&mut self, place: Place, (warning, once): Warning) {
-        let warned = Warned {
+    fn add(&mut self, place: Location, warning: Warning) {
+        let warned = LocatedWarning {
             place,
-            warning,
-            once,
+            warning: warning.message,
+            once: warning.once,
         };
         if self.list.push(warned).is_err() {
             self.failed = true;
         }
     }
 
-    /// Adds a warning, unless it was said before, or as many are there as may be.
-    pub(crate) fn note(&mut self, place: Place, warning: Warning) {
-        if self.list.len() < MOST_TOLD && !self.is_said(&warning) {
+    /// Adds a warning, unless it was given before, or there are as many as there may be.
+    pub(crate) fn note(&mut self, place: Location, warning: Warning) {
+        if self.list.len() < MOST_TOLD && !self.is_reported(&warning) {
             self.add(place, warning);
         }
     }
 
-    /// Notes what is warned of at these items of a bench.
+    /// Notes the warnings about these items of a bench.
     pub(crate) fn note_items(
         &mut self,
         alloc: Global,
         bench: &Bench,
-        items: &[(Place, Item)],
+        items: &[(Location, Item)],
     ) -> Result<(), AllocError> {
         let tasks = Tasks::of(alloc, items)?;
         for (place, item) in items {
@@ -189,25 +210,26 @@ impl Found {
         Ok(())
     }
 
-    /// Adds which requests of a run are the first that were refused, and whether it was cut.
-    fn add_run(&mut self, bench: &Bench, ran: &Ran) {
+    /// Adds the warnings about the first requests of a run that were refused, and about a run that
+    /// was cut short.
+    fn add_run(&mut self, bench: &Bench, ran: &RunCounts) {
         if let Some(first) = ran.log_full {
-            let limit = Piece::Number(u64::from(bench.limit().get()));
-            let warning = said(LOG_FULL, Piece::Number(first), limit);
-            self.add(Place::Value(LIMIT), (warning, None));
+            let limit = Part::Number(u64::from(bench.limit().get()));
+            let message = message_of(LOG_FULL, Part::Number(first), limit);
+            self.add(Location::Value(LIMIT), Warning::repeatable(message));
         }
         if let Some(first) = ran.spent {
-            let allowance = Piece::Number(bench.allowance());
-            let warning = said(SPENT, Piece::Number(first), allowance);
-            self.add(Place::Value(ALLOWANCE), (warning, None));
+            let allowance = Part::Number(bench.allowance());
+            let message = message_of(SPENT, Part::Number(first), allowance);
+            self.add(Location::Value(ALLOWANCE), Warning::repeatable(message));
         }
         if ran.is_cut {
-            self.add(Place::Whole, (plain(CUT), None));
+            self.add(Location::Whole, Warning::repeatable(plain(CUT)));
         }
     }
 
-    /// All that was found.
-    fn ended(self) -> Result<Vec<Warned>, AllocError> {
+    /// All warnings, unless memory ran out.
+    fn into_list(self) -> Result<Vec<LocatedWarning>, AllocError> {
         if self.failed {
             Err(AllocError)
         } else {
@@ -216,24 +238,24 @@ impl Found {
     }
 }
 
-/// The warnings about a bench or a scenario whose run came to this: up to twenty about a scenario's
-/// jobs and events, and about what has no effect, in the order of the bench's keys; and after them
-/// all warnings about the run. Source: profile.
+/// The warnings about a bench or a scenario with this summary of its run: up to twenty about a
+/// scenario's jobs and events, and about parts that have no effect, in the order of the bench's
+/// keys; and after them all warnings about the run.
 ///
 /// # Errors
 ///
-/// Where there is no memory.
+/// If memory runs out.
 pub fn warnings_of(
     alloc: Global,
     subject: Subject<'_>,
-    ran: &Ran,
-) -> Result<Vec<Warned>, AllocError> {
-    let mut found = Found::new(alloc);
+    ran: &RunCounts,
+) -> Result<Vec<LocatedWarning>, AllocError> {
+    let mut found = WarningList::new(alloc);
     if let Subject::Scenario(scenario) = subject {
         note_timing(alloc, &mut found, scenario)?;
     }
     let items = items_of(alloc, subject)?;
     found.note_items(alloc, subject.bench(), items.as_slice())?;
     found.add_run(subject.bench(), ran);
-    found.ended()
+    found.into_list()
 }

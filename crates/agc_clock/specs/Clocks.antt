@@ -48,7 +48,7 @@ to_come table clock =
     ++ (look_left clock.looks ++ (replicate clock.left Works
     ++ centiseconds table (clock.time + 1) (table.lasts - clock.time)))
 
--- what is asked next, the instants behind it, and what is counted up to it
+-- the next request, the instants after it, and the counts up to it
 pub record Next : Type 0 where
   pub asked : Option Asked
   pub behind : List Instant

@@ -17,7 +17,7 @@ use Rattle.agc_clock.specs.Instants.{Instant, Asks, Looks, Works, by_clock}
 use Rattle.agc_clock.specs.Timetables.{asked_of, cost_at, needs, next_lot, spared, spread_of}
 use Rattle.agc_clock.specs.Timetables.{step_at}
 
--- what is counted: the hundredths that each job was given, and the lot that was drawn last
+-- the counts of a clock: the hundredths that each job was given, and the lot that was drawn last
 pub record Counts : Type 0 where
   pub given : List ℕ
   pub lot : ℕ
@@ -48,7 +48,7 @@ worker_of costs jobs = option_and_then
     (cost_at costs runner.at))
     (runner_of jobs)
 
--- what is asked at an instant, if anything, and what is counted then
+-- the request of an instant, if it has one, and the counts after it
 pub record Passed : Type 0 where
   pub asked : Option Asked
   pub counts : Counts

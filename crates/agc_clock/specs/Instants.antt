@@ -40,7 +40,7 @@ asks_of time number event =
     if comes event.times time then map (λ request. Asks (by_event number request)) event.requests
     else []
 
--- those of all events at a time, in the file's order; they are numbered from this number on
+-- the instants of all events at a time, in the file's order; they are numbered from this number on
 abbrev pub events_at : ℕ → ℕ → List Event → List Instant
 events_at time number [] = []
 events_at time number (event ∷ events) =
@@ -52,7 +52,7 @@ abbrev pub centisecond : Schedule → ℕ → List Instant
 centisecond table time = Asks (by_clock Tick) ∷ (events_at time 0 table.events
     ++ (Looks ∷ replicate (share_at table time) Works))
 
--- so many centiseconds, from this one on
+-- the instants of centiseconds, from this one on
 abbrev pub centiseconds : Schedule → ℕ → ℕ → List Instant
 centiseconds table time more = flat_map (centisecond table) (range_with_len time more)
 

@@ -1,4 +1,4 @@
--- What is wanted of time that passes, in the field's words.
+-- The facts that one wants of time that passes, in the field's words.
 use Rattle.std.specs.Prelude.{◌≡◌, ◌<◌, ℕ, ◌+◌, ◌-◌, ◌*◌, List, [], ◌∷◌, length, Option, Some, None}
 use Rattle.std.specs.List.{count_by}
 use Rattle.agc_plan.specs.Jobs.{Jobs}
@@ -50,7 +50,7 @@ steps_in [] = 0
 steps_in (None ∷ steps) = 0
 steps_in (Some step ∷ steps) = 1 + steps_in steps
 
--- what a job needs that draws this lot
+-- the need of a job that draws this lot
 abbrev pub drawn : Cost → ℕ → ℕ
 drawn cost lot = needs cost - spared cost lot
 

@@ -19,7 +19,7 @@ awake_in seat =
 abbrev pub awake_at : Option Seat → Option JobAt
 awake_at seat = option_and_then awake_in seat
 
--- what an event asks for at this time, after so many of its requests
+-- the next request of an event at this time, after this many of its requests
 abbrev pub first_of : ℕ → ℕ → Option Event → Option Request
 first_of time asked None = None
 first_of time asked (Some event) =

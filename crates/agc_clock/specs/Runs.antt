@@ -36,7 +36,7 @@ served by asked counts at =
       counts = kept (by.begins at.state asked) (by.jobs state) counts;
     }
 
--- what came of an instant: a request, or none
+-- the state after an instant with a request, or with none
 abbrev pub goes_on : {S : Type 0} → Serving S → Option Asked → Counts → Standing S → Standing S
 goes_on by (Some asked) counts at = served by asked counts at
 goes_on by None counts at = record at { counts = counts }
@@ -47,7 +47,7 @@ lived by costs at instant =
     let did = passed costs (by.jobs at.state) instant at.counts in
     goes_on by did.asked did.counts at
 
--- so many instants
+-- the state after instants, in order
 abbrev pub lived_all : {S : Type 0} → Serving S → List Cost → Standing S → List Instant
     → Standing S
 lived_all by costs at instants = fold (lived by costs) at instants

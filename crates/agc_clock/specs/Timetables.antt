@@ -1,5 +1,5 @@
--- What is set down for a scenario: how long it lasts, what time is stolen, what jobs cost, and
--- which events come when.
+-- The schedule of a scenario: how long it lasts, which time is stolen, how much each job costs, and
+-- when each event comes.
 use Rattle.std.specs.Prelude.{ℕ, ◌+◌, ◌-◌, ◌*◌, ◌%◌, ◌==◌, ◌&&◌, nat_le, nat_lt, min, max, Bool}
 use Rattle.std.specs.Prelude.{if◌then◌else◌, List, [], ◌∷◌, Option, Some, None, slice_get}
 use Rattle.std.specs.Option.{option_and_then, option_map_or}
@@ -52,7 +52,7 @@ stolen_at (row ∷ rows) time = if holds row time then row.percent else stolen_a
 abbrev pub share_at : Schedule → ℕ → ℕ
 share_at table time = 100 - stolen_at table.stolen time
 
--- what a job costs that stands at this address
+-- the cost of a job at this address
 abbrev pub cost_at : List Cost → ℕ → Option Cost
 cost_at [] at = None
 cost_at (cost ∷ costs) at = if cost.at == at then Some cost else cost_at costs at
@@ -78,7 +78,7 @@ next_lot lot = (48271 * lot) % 2147483647
 abbrev pub step_at : Cost → ℕ → Option Step
 step_at cost number = option_and_then (λ step. step) (slice_get cost.steps number)
 
--- what a job is asked for a step
+-- the request that is a step
 abbrev pub asked_step : Step → Request
 asked_step (step.Novac priority entry) = Novac priority entry
 asked_step (step.Findvac priority entry) = Findvac priority entry
@@ -97,16 +97,16 @@ step_of (Lists delay task) = Some (step.List delay task)
 step_of (SetPhase group phase) = Some (step.SetPhase group phase)
 step_of request = None
 
--- what a job is asked that leaves
+-- the request by which a job leaves
 abbrev pub asked_then : Then → Request
 asked_then then.End = EndOfJob
 asked_then (then.Sleep at) = Sleep at
 
--- what a job is asked that has used up its cost: its step, or to leave, where there is none
+-- the request of a job that has used up its cost: its step, or to leave if there is none
 abbrev pub asked_of : Option Step → Then → Request
 asked_of None leaves = asked_then leaves
 asked_of (Some step) leaves = asked_step step
 
--- what the event of a number asks for, in order
+-- the requests of an event, in order
 abbrev pub requests_of : Option Event → List Request
 requests_of event = option_map_or (λ e. e.requests) event []

@@ -5,7 +5,6 @@ ghost use Rattle.agc_clock.specs.Alarms.{came, first_came, first_or, none_came};
 use agc_plan::Alarm;
 
 /// When the first alarm of each code came, in centiseconds since the start; None where none came.
-/// Source: profile.
 #[derive(Clone, Copy)]
 pub struct Alarms {
     pub a1201: Option<u32>,
@@ -24,7 +23,7 @@ fn first_or(first: Option<u32>, time: u32) -> Option<u32>
 }
 
 impl Alarms {
-    /// No alarm came. Source: profile.
+    /// No alarm came.
     pub fn none() -> Alarms
         ensures { result ≡ none_came }
     {
@@ -35,7 +34,7 @@ impl Alarms {
         }
     }
 
-    /// When the first alarm of a code came. Source: profile.
+    /// When the first alarm of a code came.
     pub fn first(&self, alarm: Alarm) -> Option<u32>
         ensures { result ≡ first_came alarm self.now }
     {
@@ -47,7 +46,7 @@ impl Alarms {
     }
 
     /// Takes the alarm of an answer, if it has one, and the centisecond of the answer. Only the
-    /// first alarm of a code counts. Source: profile.
+    /// first alarm of a code counts.
     pub fn came(&mut self, alarm: Option<Alarm>, time: u32)
         ensures { self.new ≡ came alarm time self.old }
     {

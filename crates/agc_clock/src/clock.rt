@@ -18,7 +18,7 @@ use std::marker::Model;
 
 /// A clock that lets time pass by a timetable: it says what a machine is asked next, counts the
 /// computing time that each job was given since it was established or roused, and draws lots. It
-/// takes no memory. Source: profile.
+/// takes no memory.
 #[repr(C)]
 #[derive(Clone, Copy)]
 pub struct Clock {
@@ -59,7 +59,7 @@ impl Model for Clock {
     } };
 }
 
-/// What an event still asks for at this time, first.
+/// The next request of an event at this time.
 fn request_of<T: Timetables>(table: &T, event: usize, asked: usize, time: u32) -> Option<Request>
     ensures first { result
         ≡ first_of time asked (slice_get (T.set_down table.now).events event) }
@@ -79,7 +79,6 @@ fn request_of<T: Timetables>(table: &T, event: usize, asked: usize, time: u32) -
 
 impl Clock {
     /// A clock at centisecond 0, which draws lots from this seed on; with seed 0, each lot is 0.
-    /// Source: profile.
     pub fn new(seed: u32) -> Clock
         ensures { result ≡ at_start seed }
     {
@@ -94,14 +93,14 @@ impl Clock {
         }
     }
 
-    /// The centisecond that passes, from 1; 0 before the first tick. Source: profile.
+    /// The centisecond that passes, from 1; 0 before the first tick.
     pub fn time(&self) -> u32
         ensures { result ≡ self.now.time }
     {
         self.time
     }
 
-    /// How many hundredths of this centisecond's computing time are left. Source: profile.
+    /// How many hundredths of this centisecond's computing time are left.
     pub fn left(&self) -> u32
         ensures { result ≡ self.now.left }
     {
@@ -110,14 +109,13 @@ impl Clock {
 
     /// How many hundredths of a centisecond of computing time each job was given since it was
     /// established or roused, by its number from 1; what a lot spared it is counted as given.
-    /// Source: profile.
     pub fn given(&self) -> &[u32; 8]
         ensures { result.now ≡ self.now.counts.given }
     {
         &self.given
     }
 
-    /// What the events of this time still ask for, first.
+    /// The next request of the events at this time.
     fn next_event<T: Timetables>(&mut self, table: &T) -> Option<Asked>
         ensures stage { (jobs : Jobs)
             → AsksOrPasses (T.set_down table.now) jobs self.old result self.new }
@@ -247,7 +245,7 @@ impl Clock {
     /// The next request, and who asks for it, with these words of the machine, which were not
     /// changed since the last [`served`](Clock::served) was told of them; None when the time is
     /// over. Each centisecond: a tick; the events of its time; where NEWJOB names a set, a change
-    /// of job; then what the running job does, each time its cost is used up. Source: profile.
+    /// of job; then what the running job does, each time its cost is used up.
     pub fn next<T: Timetables>(&mut self, words: &Erasable, table: &T) -> Option<Asked>
         requires { IsLawfulWords words.now }
         ensures { AsksNext (T.set_down table.now) (jobs_in words.now) self.old result self.new }
@@ -271,7 +269,7 @@ impl Clock {
     /// it, as with every alarm, restart and fresh start. The time of a job that ended or that
     /// sleeps, and with a new era that of every job, is counted from 0 again. Call it after each
     /// request, including those of other callers. A request that was refused changes nothing, so it
-    /// need not be reported. Source: profile.
+    /// need not be reported.
     pub fn served(&mut self, words: &Erasable, began: bool)
         requires { IsLawfulWords words.now }
         ensures { self.new ≡ record self.old {

@@ -56,7 +56,7 @@ fn runner(words: &Erasable) -> Option<JobAt>
     runner_in(job_at(words, 0))
 }
 
-/// What a job at this address costs.
+/// The cost of a job at this address.
 fn cost_at<T: Timetables>(table: &T, at: u16) -> Option<Cost>
     ensures { result ≡ cost_at (T.set_down table.now).costs at }
 {
@@ -141,15 +141,14 @@ fn step_at(cost: &Cost, number: u32) -> Option<Step>
     }
 }
 
-/// What a job is asked for when it has used up its cost, and how much of what it was given counts
-/// after that.
+/// The request of a job that has used up its cost, and how much of its time counts after that.
 #[derive(Clone, Copy)]
 pub(crate) struct Spent {
     pub(crate) request: Request,
     pub(crate) counted: u32,
 }
 
-/// What a job is asked for that has been given what it needs, and this many hundredths more.
+/// The request of a job that was given all it needs, and this many hundredths more.
 pub(crate) fn spend(cost: &Cost, more: u32) -> Spent
     ensures request { result.request ≡ asked_of (step_at cost.now more) cost.now.then }
     ensures counted { result.counted ≡ counted_on (step_at cost.now more) (needs cost.now + more) }
@@ -180,7 +179,7 @@ fn holds(row: &Stolen, time: u32) -> bool
     after < row.to.saturating_sub(row.from) && time.saturating_sub(after) <= row.until
 }
 
-/// The percent that is stolen of a centisecond: that of the first row that holds. Source: profile.
+/// The percent that is stolen of a centisecond: that of the first row that holds.
 pub fn stolen_at(rows: &[Stolen], time: u32) -> u32
     ensures { result ≡ stolen_at rows.now time }
 {
@@ -218,7 +217,7 @@ fn is_awake(words: &Erasable, number: u16) -> bool
     false
 }
 
-/// What a job, 1 to 8, keeps of what it was given.
+/// The hundredths that a job, 1 to 8, keeps of those that it was given.
 fn kept_by(words: &Erasable, began: bool, number: u16, given: u32) -> u32
     requires lawful { IsLawfulWords words.now }
     requires number { 1 ≤ number }
@@ -232,7 +231,7 @@ fn kept_by(words: &Erasable, began: bool, number: u16, given: u32) -> u32
     }
 }
 
-/// What all jobs keep of what they were given.
+/// The hundredths that all jobs keep of those that they were given.
 pub(crate) fn kept(words: &Erasable, began: bool, given: &[u32; 8]) -> [u32; 8]
     requires lawful { IsLawfulWords words.now }
     requires eight { length given.now ≡ 8 }

@@ -1,5 +1,5 @@
-//! What should hold while time passes, as laws: each is the contract of a function that does
-//! nothing. They hold for a machine in any state, and for any timetable. Source: profile.
+//! Laws of time that passes: each is the contract of a function that does nothing. They hold for a
+//! machine in any state, and for any timetable.
 ghost use Rattle.std.specs.Prelude.{◌≡◌, ◌<◌, ◌≤◌, ℕ, ◌+◌, ◌-◌, nat_le, nat_lt, ◌&&◌, List, map};
 ghost use Rattle.std.specs.Prelude.{Option, Some, None, length, replicate};
 ghost use Rattle.agc_machine.specs.Machines.{Machined, after_all};
@@ -76,8 +76,7 @@ pub fn a_job_computes_as_long_as_is_drawn()
         ≡ None }
 {}
 
-/// What is drawn for a job is at least 1, at most what it needs, and less by no more than its
-/// spread.
+/// The draw of a job is at least 1, at most its need, and less by no more than its spread.
 pub fn a_lot_is_drawn_between()
     ensures some { (cost : Cost) (lot : ℕ) → 1 ≤ drawn cost lot }
     ensures most { (cost : Cost) (lot : ℕ) → drawn cost lot ≤ needs cost }

@@ -14,4 +14,4 @@ pub use asked::{Asked, Source};
 pub use clock::Clock;
 pub use counting::stolen_at;
 pub use times::{LAST_TIME, Times};
-pub use timetable::{Cost, Event, Step, Stolen, Then, Timetable, Timetables, step_of};
+pub use timetable::{Cost, Step, Stolen, Then, Timetables, step_of};

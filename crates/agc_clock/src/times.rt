@@ -5,11 +5,11 @@ ghost use Rattle.agc_clock.specs.Coming.{comes};
 
 use std::marker::Model;
 
-/// The last centisecond of a day, which no timetable goes beyond. Source: profile.
+/// The last centisecond of a day, which no timetable goes beyond.
 pub const LAST_TIME: u32 = 8_640_000;
 
 /// When an event comes, in centiseconds since the start: at a time, and again each so many
-/// centiseconds, up to a last time and at that too. Source: profile.
+/// centiseconds, up to a last time and at that too.
 #[derive(Clone, Copy)]
 pub struct Times {
     at: u32,
@@ -31,7 +31,7 @@ impl Model for Times {
 }
 
 impl Times {
-    /// At this time alone. Source: profile.
+    /// At this time alone.
     pub fn once(at: u32) -> Times
         ensures { result ≡ record { at = at; every = 1; until = at } }
     {
@@ -43,7 +43,7 @@ impl Times {
     }
 
     /// At this time, and again each so many centiseconds, up to `until` and at that too. None where
-    /// `every` is 0. Source: profile.
+    /// `every` is 0.
     pub fn repeated(at: u32, every: u32, until: u32) -> Option<Times>
         ensures valid { IsSome result ↔ (0 < every) }
         ensures value { IfSome result (λ t. t
@@ -69,7 +69,6 @@ impl Times {
 
     /// These times, as distances from the first alarm of a code, which came at this time: a
     /// distance of 0 counts as 1. At no time where no such alarm came, and at none after a day.
-    /// Source: profile.
     pub fn after(&self, first: Option<u32>) -> Times
         ensures { result ≡ times_after first self.now }
     {
@@ -110,7 +109,7 @@ impl Times {
         self.until
     }
 
-    /// Whether it comes at this time. Source: profile.
+    /// Whether it comes at this time.
     pub fn comes(&self, time: u32) -> bool
         ensures { result ≡ comes self.now time }
     {

@@ -1,4 +1,4 @@
-// What is set down for a scenario, wherever it lies.
+// The schedule of a scenario, wherever it is stored.
 ghost use Rattle.std.specs.Prelude.{◌≡◌, length, slice_get, option_map};
 ghost use Rattle.agc_clock.specs.Timetables.{Schedule, asked_step, asked_then, overlap};
 ghost use Rattle.agc_clock.specs.Timetables.{requests_of, step_of};
@@ -6,11 +6,10 @@ ghost use Rattle.agc_clock.specs.Timetables.{requests_of, step_of};
 use crate::times::Times;
 use agc_plan::{Address, Delay, Entry, Group, Phase, Place, Priority, Request, Task};
 use agc_word::Word;
-use std::marker::Model;
 
 /// From centisecond `from` until just before `to`, something else takes `percent` of each
 /// centisecond; all of it if that is above 100. If `every` isn't 0, this repeats at that interval,
-/// for the same length each time, and last begins at `until` or earlier. Source: profile.
+/// for the same length each time, and last begins at `until` or earlier.
 #[repr(C)]
 #[derive(Clone, Copy)]
 pub struct Stolen {
@@ -22,7 +21,7 @@ pub struct Stolen {
 }
 
 impl Stolen {
-    /// Whether two rows of stolen time that don't repeat hold at the same time. Source: profile.
+    /// Whether two rows of stolen time that don't repeat hold at the same time.
     pub fn overlaps(&self, other: &Stolen) -> bool
         ensures { result ≡ overlap self.now other.now }
     {
@@ -30,7 +29,7 @@ impl Stolen {
     }
 }
 
-/// What a job is asked for before it leaves: one of the requests of this name. Source: profile.
+/// A step of a job before it leaves: one of the requests of this name.
 #[derive(Clone, Copy, PartialEq, Eq)]
 pub enum Step {
     Novac(Priority, Entry),
@@ -55,7 +54,7 @@ pub(crate) fn asked_step(step: Step) -> Request
     }
 }
 
-/// The step that a request is, if it is one. Source: profile.
+/// The step that a request is, if it is one.
 pub fn step_of(request: &Request) -> Option<Step>
     ensures { result ≡ step_of request.now }
 {
@@ -70,7 +69,7 @@ pub fn step_of(request: &Request) -> Option<Step>
     }
 }
 
-/// How a job leaves: it ends, or sleeps until this address is called. Source: profile.
+/// How a job leaves: it ends, or sleeps until this address is called.
 #[derive(Clone, Copy, PartialEq, Eq)]
 pub enum Then {
     End,
@@ -87,11 +86,11 @@ pub(crate) fn asked_then(then: Then) -> Request
     }
 }
 
-/// What a job at an address costs, in hundredths of a centisecond of computing time, from 1 on (0
-/// costs as much as 1, and more than 4,000,000,000 as much as these), and what it does when that is
+/// The cost of a job at an address, in hundredths of a centisecond of computing time, from 1 on (0
+/// costs as much as 1, and more than 4,000,000,000 as much as these), and its requests when that is
 /// used up: steps in order, up to the first that is missing, and then how it leaves. Each request
 /// but the first takes one hundredth more. Where `spread` isn't 0, each time a job begins it may
-/// cost less, by up to so many hundredths, as a lot says; at least it costs 1. Source: profile.
+/// cost less, by up to so many hundredths, as a lot says; at least it costs 1.
 #[derive(Clone, Copy)]
 pub struct Cost {
     pub at: Address,
@@ -101,25 +100,9 @@ pub struct Cost {
     pub then: Then,
 }
 
-/// When an event comes, and what it then asks for, in order. Source: profile.
-#[derive(Drop)]
-pub struct Event {
-    pub times: Times,
-    pub requests: Vec<Request>,
-}
-
-impl Model for Event {
-    ghost use Rattle.agc_clock.specs.Events as told;
-
-    ghost Value = { told.Event };
-
-    ghost view = { λ e. record { times = e.times; requests = e.requests.items } };
-}
-
-/// What a scenario says, wherever it is stored: how many centiseconds it lasts, rows of stolen
-/// time, what jobs cost, and events. Each is returned by its number, from 0; None after the last.
-/// If two rows hold at the same time, or two costs have the same address, the first counts. Source:
-/// profile.
+/// A scenario's schedule, wherever it is stored: how many centiseconds it lasts, rows of stolen
+/// time, the costs of jobs, and events. Each is returned by its number, from 0; None after the
+/// last. If two rows hold at the same time, or two costs have the same address, the first counts.
 pub trait Timetables {
     ghost set_down: { Self → Schedule };
 
@@ -135,7 +118,7 @@ pub trait Timetables {
     fn costs(&self) -> usize
         ensures { result ≡ length (set_down self.now).costs };
 
-    /// What a job at an address costs.
+    /// The cost of a job at an address.
     fn cost(&self, row: usize) -> Option<Cost>
         ensures { result ≡ slice_get (set_down self.now).costs row };
 
@@ -153,75 +136,8 @@ pub trait Timetables {
         ensures { result
             ≡ length (requests_of (slice_get (set_down self.now).events event)) };
 
-    /// One of these requests.
+    /// A request of an event, by its number from 0; None after the last.
     fn request(&self, event: usize, index: usize) -> Option<Request>
         ensures { result
             ≡ slice_get (requests_of (slice_get (set_down self.now).events event)) index };
-}
-
-/// What is set down for a scenario, in memory of its own. Source: profile.
-#[derive(Drop)]
-pub struct Timetable {
-    pub lasts: u32,
-    pub stolen: Vec<Stolen>,
-    pub costs: Vec<Cost>,
-    pub events: Vec<Event>,
-}
-
-impl Model for Timetable {
-    ghost use Rattle.agc_clock.specs.Timetables.{Schedule};
-
-    ghost Value = { Schedule };
-
-    ghost view = { λ t. record {
-      lasts = t.lasts;
-      stolen = t.stolen.items;
-      costs = t.costs.items;
-      events = t.events.items;
-    } };
-}
-
-impl Timetables for Timetable {
-    ghost set_down = { λ t. t };
-
-    fn lasts(&self) -> u32 {
-        self.lasts
-    }
-
-    fn stolen(&self) -> &[Stolen] {
-        self.stolen.as_slice()
-    }
-
-    fn costs(&self) -> usize {
-        self.costs.len()
-    }
-
-    fn cost(&self, row: usize) -> Option<Cost> {
-        self.costs.get(row).copied()
-    }
-
-    fn events(&self) -> usize {
-        self.events.len()
-    }
-
-    fn times(&self, event: usize) -> Option<Times> {
-        match self.events.get(event) {
-            None => None,
-            Some(event) => Some(event.times),
-        }
-    }
-
-    fn requests(&self, event: usize) -> usize {
-        match self.events.get(event) {
-            None => 0,
-            Some(event) => event.requests.len(),
-        }
-    }
-
-    fn request(&self, event: usize, index: usize) -> Option<Request> {
-        match self.events.get(event) {
-            None => None,
-            Some(event) => event.requests.get(index).copied(),
-        }
-    }
 }

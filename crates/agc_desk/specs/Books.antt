@@ -12,11 +12,11 @@ pub record Ledgered : Type 0 where
   pub left : ℕ
   pub back : Totals
 
--- what the answers to these calls tell together
+-- the totals of the answers to these calls
 unfoldable pub told_in : List Call → Totals
 told_in heard = fold (λ total call. add total (told call.answer.outcome)) nothing heard
 
--- what the holders of all these shares were told together
+-- the totals that the holders of all these shares counted together
 abbrev pub told_to : List Holder → Totals
 told_to shares = record {
   served = sum_by (λ (s : Holder). (told_in s.heard).served) shares;

@@ -43,10 +43,10 @@ pub record ArePulses (plan : Planned) (calls : List Call) (applied begun : List 
   pub not_all : (line : Line) → 0 < on line begun
       → on line begun < length (pulse_requests plan line)
 
--- what a desk keeps that was made with the first machine: its history leads from that one to its
+-- the books of a desk that was made with the first machine: its history leads from that one to its
 -- machine, and no share was gathered; each book is the machine's total less its value as the desk
 -- was made; with each share went one of the 65 parts of each ledger, the desk keeps at least one,
--- and no share is back; and its lines tell of the pulses of its history
+-- and no share is back; and its lines tell
 pub record IsBooked (first machine : Machined) (known : Known) (since : Totals)
     (ledgers : Ledgered) (lines : LineAccounts) : Type 0 where
   pub leads : Leads first known.calls machine

@@ -1,4 +1,4 @@
--- What a desk does as it is drained.
+-- Draining a desk: it serves the requests of pulses that are owed.
 use Rattle.std.specs.Prelude.{◌≡◌, ◌↔◌, ℕ, ◌+◌, ◌*◌, ◌<◌, ◌≤◌, List, [], ◌∷◌, ◌++◌, map, take}
 use Rattle.std.specs.Prelude.{Option, Some, IsNone, IsOk, slice_get}
 use Rattle.std.specs.List.{All}
@@ -22,7 +22,7 @@ use Rattle.agc_desk.specs.Desks.{ArePulses, Desked, with_lines}
 use Rattle.agc_desk.specs.History.{Holder, Leads, with_drain, with_heard}
 use Rattle.agc_desk.specs.Pulses.{Pulse, left_of}
 
--- what a machine answers these requests, in order, each as its step answers it there
+-- the answers of a machine to these requests, in order, each as its step answers it there
 unfoldable pub answers_to : Machined → List Request → List Said
 answers_to m [] = []
 answers_to m (asked ∷ more) = said_of m asked ∷ answers_to (after m asked) more
@@ -72,7 +72,7 @@ pub record Moves (found done : List ℕ) (old now : LineAccounts) : Type 0 where
   pub devices : now.devices ≡ old.devices
   pub settled : now.settled ≡ old.settled
 
--- what the accounts of lines leave to be asked for
+-- the pulses' requests that the accounts of lines leave for later
 abbrev pub left_by : Planned → LineAccounts → List Pulse
 left_by plan lines = left_of plan (λ line. on line lines.owed) (λ line. on line lines.begun)
 

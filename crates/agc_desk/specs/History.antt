@@ -17,7 +17,7 @@ Leads first (call ∷ more) last =
     (call.answer ≡ said_of first call.answer.request)
     × Leads (after first call.answer.request) more last
 
--- what was asked with the share of this number, and answered, in order
+-- the calls with the share of this number, in order
 abbrev pub calls_by : ℕ → List Call → List Call
 calls_by number calls = filter (λ call. call.by == number) calls
 
@@ -30,7 +30,7 @@ is_of line (Some other) = word_of other == word_of line
 abbrev pub serves_line : Line → Call → Bool
 serves_line line call = is_ok call.answer.outcome && is_of line call.pulse
 
--- what was asked for pulses of a line by these calls, and not refused, in order
+-- the requests of these calls for pulses of a line that were not refused, in order
 abbrev pub served_on : Line → List Call → List Request
 served_on line calls = map (λ call. call.answer.request) (filter (serves_line line) calls)
 
@@ -54,12 +54,12 @@ new_holder number = record { number = number; heard = []; drains = 0 }
 abbrev pub with_heard : List Call → Holder → Holder
 with_heard calls holder = record holder { heard = holder.heard ++ calls }
 
--- and as it drains once more
+-- the holder of a share after one more drain
 abbrev pub with_drain : Holder → Holder
 with_drain holder = record holder { drains = holder.drains + 1 }
 
--- what a desk knows of its history: the calls, how many shares were given out, and the numbers of
--- those that were gathered
+-- the knowledge of a desk about its history: the calls, how many shares were given out, and the
+-- numbers of those that were gathered
 pub record Known : Type 0 where
   pub calls : List Call
   pub given : ℕ

@@ -1,4 +1,4 @@
--- What the desk knows of the table that ties it to the holders of its shares: the history.
+-- The desk's knowledge of the table that ties it to the holders of its shares: the history.
 use Rattle.std.specs.Prelude.{ℕ, List, [], true, false}
 use Rattle.agc_desk.specs.declared.ties.Call.{Call}
 use Rattle.agc_desk.specs.declared.ties.View.{View}

@@ -1,4 +1,4 @@
--- What is said of plans whose key and radar pulses do one thing.
+-- Plans whose key and radar pulses do one thing.
 use Rattle.std.specs.Prelude.{◌≡◌, ◌≤◌, ◌⊎◌, ℕ, List, [], ◌∷◌, length}
 use Rattle.agc_latch.specs.Lines.{on}
 use Rattle.agc_plan.specs.declared.request.Request.{Request}

@@ -1,4 +1,4 @@
--- What stays of a desk's accounts of lines while the desk is under a lock.
+-- The part of a desk's accounts of lines that stays while the desk is under a lock.
 use Rattle.std.specs.Prelude.{ℕ, List, Option}
 use Rattle.atomic_table.specs.Seated.{TableId}
 

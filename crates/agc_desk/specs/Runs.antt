@@ -1,4 +1,4 @@
--- What callers ask, and what they are told.
+-- The requests of callers, and the answers that they get.
 use Rattle.std.specs.Prelude.{◌≡◌, ℕ, ◌+◌, ◌<◌, ◌≤◌, ◌⊎◌, Bool, true, false, List, [], ◌∷◌, length}
 use Rattle.std.specs.Prelude.{map, take, IsNone, slice_index_or}
 use Rattle.std.specs.List.{All}

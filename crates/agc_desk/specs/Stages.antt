@@ -16,7 +16,7 @@ use Rattle.agc_desk.specs.History.{Holder}
 use Rattle.agc_desk.specs.Pulses.{Pulse, left_on}
 use Rattle.agc_plan.specs.Pulses.{pulse_requests}
 
--- what the accounts leave to be asked for on one line
+-- the requests that the accounts leave for later on one line
 abbrev pub line_left : Planned → Line → LineAccounts → List Pulse
 line_left plan line lines = left_on plan line (on line lines.owed) (on line lines.begun)
 
@@ -44,7 +44,7 @@ Marks plan (Some line) (Ok reply) old now = Proceeds plan line old now
 Marks plan (Some line) (Err refusal) old now = now ≡ old
 Marks plan None outcome old now = now ≡ old
 
--- what is tried last: nothing after a refusal, else what is next
+-- the request that is tried last: none after a refusal, otherwise the next
 abbrev pub tried_after : Option Refusal → List Pulse → List Pulse
 tried_after None left = take 1 left
 tried_after (Some refusal) left = []

@@ -26,7 +26,7 @@ owner h = record {
   drains = h.drains;
 }
 
--- what a share's view knows
+-- the knowledge of a share's view
 abbrev pub holder_of : View → Holder
 holder_of v = record { number = v.number; heard = v.heard; drains = v.drains }
 
@@ -64,7 +64,7 @@ pub record IsGathered (given : ℕ) (seat_of : ℕ → ℕ) (number : ℕ) : Typ
   pub given_out : number < given
   pub nobody_has : seat_of number ≡ 0
 
--- what the rule says of the view of this seat; seat_of is 0 of a number that no seat has, else
+-- the rule for the view of this seat; seat_of is 0 for a number that no seat has, and otherwise
 -- greater by 1 than the seat
 pub record Fits (keeper given : ℕ) (seat_of : ℕ → ℕ) (calls : List Call) (seat : ℕ) (v : View)
     : Type 0 where

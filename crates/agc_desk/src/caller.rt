@@ -15,13 +15,13 @@ use agc_machine::Answer;
 use agc_plan::Request;
 use std::sync::{Mutex, Wait};
 
-/// What lies under the lock. Whenever the lock is free, as many of the desk's shares are given out
-/// as may be there, its history begins with the calls that the type names, its taker, if it has
-/// one, is of the latch that the type names, and its accounts of lines stay as far as the type says
-/// how. Source: profile.
+/// A desk as it is under the lock. Whenever the lock is free, as many of the desk's shares are
+/// given out as may be there, its history begins with the calls that the type names, its taker, if
+/// it has one, is of the latch that the type names, and its accounts of lines stay as far as the
+/// type says how.
 #[derive(Drop)]
 pub struct Held<N: Sharing> {
-    /// The desk that is asked. Source: profile.
+    /// The desk that is asked.
     pub desk: Desk<N>,
     ghost given: { N.may_share desk.given ≡ true },
     ghost begun: { take (length N.begun) desk.history ≡ N.begun },
@@ -29,12 +29,11 @@ pub struct Held<N: Sharing> {
     ghost lent: { IsLent N.lent desk.lines } by { Prim.hlevel props },
 }
 
-/// A desk that several threads share, under a lock. Source: profile.
+/// A desk that several threads share, under a lock.
 pub type Shared<N> = Mutex<Held<N>>;
 
 /// Asks the machine of the locked desk, with this share: the request and its answer come into the
 /// desk's history under its number. A refusal is the answer's result. It may wait for the lock.
-/// Source: profile.
 pub fn ask<N: Sharing, W: Wait>(
     rt: &W,
     shared: &Shared<N>,
@@ -48,7 +47,7 @@ pub fn ask<N: Sharing, W: Wait>(
 
 /// Drains the locked desk, with this share: what devices posted is taken, and what is owed is
 /// applied, as [`Desk::drain`] says. The latch is the one that the desk's type names. It may wait
-/// for the lock. Source: profile.
+/// for the lock.
 pub fn attend<N: Sharing, W: Wait>(
     rt: &W,
     shared: &Shared<N>,
@@ -65,12 +64,12 @@ pub fn attend<N: Sharing, W: Wait>(
     drained
 }
 
-/// A shared desk with the share of one who asks: a [`Console`]. Source: profile.
+/// A shared desk with the share of one who asks: a [`Console`].
 #[derive(Drop)]
 pub struct Caller<'a, N: Sharing> {
-    /// The desk that is asked. Source: profile.
+    /// The desk that is asked.
     pub shared: &'a Shared<N>,
-    /// What was heard so far. Source: profile.
+    /// The share, with all answers so far.
     pub share: Share<N>,
 }
 
@@ -85,7 +84,7 @@ impl<N: Sharing> Console for Caller<'_, N> {
 /// Asks the requests in order at the shared desk, either all of them or those before a call at
 /// which the gate may stop. Returns the share, whose holder has asked exactly these; the gate is
 /// given each answer. `worker` is the number that the gate gets. It may wait for the lock, and
-/// wherever its gate waits. Source: profile.
+/// wherever its gate waits.
 pub fn work<N: Sharing, G: Gate, W: Wait>(
     rt: &W,
     shared: &Shared<N>,

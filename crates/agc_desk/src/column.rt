@@ -4,8 +4,8 @@ use std::marker::Model;
 use std::sync::ledger;
 use std::sync::ledger::{Blank, Book, Ledger};
 
-/// What one holder was told of one number, with its part of the number's ledger. Contracts see it
-/// as the amount.
+/// One holder's count of one number, with its part of the number's ledger. Contracts see it as the
+/// amount.
 #[derive(Drop)]
 pub(crate) struct ShareCount<L: Ledger> {
     amount: u64,
@@ -23,7 +23,7 @@ impl<L: Ledger> Model for ShareCount<L> {
 }
 
 impl<L: Ledger> ShareCount<L> {
-    /// What its holder was told.
+    /// The holder's count so far.
     pub(crate) fn get(&self) -> u64
         ensures { result ≡ self.now }
     {

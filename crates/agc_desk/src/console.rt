@@ -8,50 +8,48 @@ use agc_machine::Answer;
 use agc_plan::Request;
 use std::sync::Wait;
 
-/// Who is asked. Source: profile.
+/// Who is asked.
 pub trait Console {
-    /// How a request and its answer lead from a state to the next. Source: profile.
+    /// How a request and its answer lead from a state to the next.
     ghost leads: { Self → Request → Said → Self → Type 0 };
 
-    /// Asks one request. It may wait. Source: profile.
+    /// Asks one request. It may wait.
     fn ask(&mut self, rt: &impl Wait, request: Request) -> Answer
         ensures asked { result.request ≡ request }
         ensures led { leads self.old request result self.new };
 }
 
 /// A gate is asked before each call of a worker, and is given the answer after it. Workers and
-/// calls are numbered from 0. Source: profile.
+/// calls are numbered from 0.
 pub trait Gate {
-    /// Whether it may let the worker go on with a call, or may not, by worker and call. Source:
-    /// profile.
+    /// Whether it may let the worker go on with a call, or may not, by worker and call.
     ghost may_answer: { Self → ℕ → ℕ → Bool → Type 0 };
 
-    /// What is known of a call once the gate was given this answer, by worker, call and answer;
-    /// nothing, if an `impl` doesn't say. Source: profile.
+    /// The fact that is known of a call once the gate was given this answer, by worker, call and
+    /// answer; none, if an `impl` doesn't say.
     ghost is_told: { Self → ℕ → ℕ → Said → Type 0 } = { λ _ _ _ _. Unit {0} };
 
     /// With what a worker goes on. It need not be a type that may be dropped, so that whoever has
-    /// one hands it to `after`. Source: profile.
+    /// one hands it to `after`.
     type Pass;
 
     /// For which call a pass may be, by worker, call and request; for any, where an `impl` doesn't
-    /// say. Source: profile.
+    /// say.
     ghost is_for: { Self.Pass → ℕ → ℕ → Request → Type 0 } = { λ _ _ _ _. Unit {0} };
 
     /// With what the worker goes on with this call, which asks for this; none ends it there.
-    /// Source: profile.
     fn before(&self, worker: usize, call: usize, request: &Request) -> Option<Self::Pass>
         ensures goes { may_answer self.now worker call (is_some result) }
         ensures pass { IfSome result (λ pass. is_for pass worker call request.now) };
 
     /// The call of this pass was answered so: the pass may be for this worker, this call and the
-    /// answer's request. Source: profile.
+    /// answer's request.
     fn after(&self, worker: usize, call: usize, pass: Self::Pass, answer: Answer)
         requires { is_for pass worker call answer.request }
         ensures { is_told self.now worker call answer };
 }
 
-/// The gate that stops no call. Source: profile.
+/// The gate that stops no call.
 #[derive(Clone, Copy)]
 pub struct OpenGate;
 
@@ -77,7 +75,7 @@ fn pass_of<G: Gate>(gate: &G, worker: usize, call: usize, request: &Request) -> 
 
 /// Asks the requests in order, and answers how many it asked: all of them, or those before the
 /// first call with which the gate let it go on no more. The gate is told each call with its answer,
-/// and `worker` as the worker's number. It waits as its console and its gate do. Source: profile.
+/// and `worker` as the worker's number. It waits as its console and its gate do.
 pub fn drive<C: Console, G: Gate, W: Wait>(
     rt: &W,
     console: &mut C,

@@ -36,8 +36,7 @@ const SHARES: u64 = 64;
 /// made, that each book is the machine's total less that one's, and that on each line what is
 /// applied and what is owed are the pulses of settled latches and those that its taker took. What
 /// its history asked for pulses of a line, and was not refused, is all for which the applied ones
-/// ask, and the first requests of one more that is begun. The history has no bytes. Source:
-/// profile.
+/// ask, and the first requests of one more that is begun. The history has no bytes.
 #[derive(Drop)]
 pub struct Desk<N: Names> {
     machine: Machine,
@@ -64,8 +63,8 @@ impl<N: Names> Model for Desk<N> {
         IsBooked N.first d.machine d.history d.since d.ledgers d.lines };
 }
 
-/// What its holder asked of one desk, and was answered. Contracts see it as its number and these
-/// answers, of which it knows the totals alone when it runs. Source: profile.
+/// The requests of a holder to one desk, and the answers. Contracts see it as its number and these
+/// answers, of which it knows only the totals when it runs.
 ///
 /// It can't be copied, and a share of another desk has another type.
 #[derive(Drop)]
@@ -87,7 +86,7 @@ impl<N: Names> Model for Share<N> {
 }
 
 impl<N: Names> Share<N> {
-    /// What its holder was told so far. Source: profile.
+    /// The totals of the holder's answers so far.
     pub fn told(&self) -> Totals
         ensures { result ≡ told_in self.now.heard }
     {
@@ -97,7 +96,7 @@ impl<N: Names> Share<N> {
 
 impl<N: Names> Desk<N> {
     /// A desk that gave out no share, booked nothing, of which nothing was asked, and to which no
-    /// pulse came. Source: profile.
+    /// pulse came.
     pub fn new(machine: Machine, blanks: Blanks) -> Desk<N>
         requires names { names_of blanks ≡ N.names }
         requires first { machine ≡ N.first }
@@ -114,7 +113,7 @@ impl<N: Names> Desk<N> {
         }
     }
 
-    /// The machine. Source: profile.
+    /// The machine.
     pub fn machine(&self) -> &Machine
         ensures machine { result.now ≡ self.now.machine }
         ensures leads { Leads N.first self.now.history result.now }
@@ -123,9 +122,9 @@ impl<N: Names> Desk<N> {
         &self.machine
     }
 
-    /// What holds of every desk, told to who has it under a lock, where the type alone says it: its
-    /// history leads to its machine, which is lawful, its accounts of lines are kept, and they tell
-    /// of the pulses of its history.
+    /// The law of every desk, for a caller that has it under a lock, where the type alone says it:
+    /// its history leads to its machine, which is lawful, its accounts of lines are kept, and they
+    /// tell of the pulses of its history.
     pub(crate) fn tell_law(&self)
         ensures leads { Leads N.first self.now.history self.now.machine }
         ensures lawful { IsLawful self.now.machine }
@@ -139,7 +138,7 @@ impl<N: Names> Desk<N> {
     }
 
     /// A share with which nothing was asked, of the least number that was not given out; none where
-    /// 64 were. Source: profile.
+    /// 64 were.
     pub fn share(&mut self) -> Option<Share<N>>
         ensures none { IsNone result ↔ (self.old.given ≡ 64) }
         ensures share { IfSome result (λ s. s ≡ new_holder self.old.given) }
@@ -161,7 +160,6 @@ impl<N: Names> Desk<N> {
     /// line's pulse, and to what the share's holder heard. A refusal is the answer's result, and
     /// books nothing. Which answers have an alarm, the law
     /// [`alarm_where_its_table_is_full`](agc_machine::laws::alarm_where_its_table_is_full) says.
-    /// Source: profile.
     pub fn serve(&mut self, share: &mut Share<N>, request: Request) -> Answer
         ensures answer { result ≡ said_of self.old.machine request }
         ensures lawful { IsLawful self.old.machine }
@@ -236,7 +234,7 @@ fn mark_served(lines: &mut Accounts, machine: &Machine, pulse: Option<Line>, ans
 
 impl<N: Names> Desk<N> {
     /// Attaches a latch's taker, so that the desk drains what devices post there; where the desk
-    /// has a taker, the new one is handed back and nothing changes. Source: profile.
+    /// has a taker, the new one is handed back and nothing changes.
     pub fn attach(&mut self, taker: Taker) -> Option<Taker>
         ensures none { IsNone result ↔ (self.old.lines.taker ≡ None) }
         ensures attached { IfNone result
@@ -247,7 +245,7 @@ impl<N: Names> Desk<N> {
     }
 
     /// A new device of the taker's latch, which may post so many pulses; none where the desk has no
-    /// taker, or where 64 devices were given out over its whole life. Source: profile.
+    /// taker, or where 64 devices were given out over its whole life.
     pub fn device(&mut self, latch: &Latch, posts: u32) -> Option<Device>
         requires { IsOf latch.now self.old.lines.taker }
         ensures none { IsNone result
@@ -260,8 +258,7 @@ impl<N: Names> Desk<N> {
         self.lines.device(latch, posts)
     }
 
-    /// How many pulses were applied, per line: the timer's, the keyboard's, the radar's. Source:
-    /// profile.
+    /// How many pulses were applied, per line: the timer's, the keyboard's, the radar's.
     pub fn applied(&self) -> [u64; 3]
         ensures applied { result ≡ self.now.lines.applied }
         ensures kept { IsKept self.now.lines }
@@ -271,7 +268,7 @@ impl<N: Names> Desk<N> {
         self.lines.applied()
     }
 
-    /// How many pulses were taken and not yet applied, per line. Source: profile.
+    /// How many pulses were taken and not yet applied, per line.
     pub fn owed(&self) -> [u64; 3]
         ensures owed { result ≡ self.now.lines.owed }
         ensures kept { IsKept self.now.lines }
@@ -316,7 +313,7 @@ impl<N: Names> Desk<N> {
         pulse_request(self.machine.plan(), line, self.lines.begun_on(line))
     }
 
-    /// So many pulses of a line that were owed are applied from now on: they ask for nothing.
+    /// Applies this many pulses of a line that were owed: they make no more requests.
     pub(crate) fn mark_applied(&mut self, line: Line, pulses: u64)
         requires idle { pulse_requests self.old.machine.plan line ≡ [] }
         requires owed { pulses ≤ on line self.old.lines.owed }
@@ -347,13 +344,13 @@ impl<N: Names> Desk<N> {
     }
 }
 
-/// What [`gather`] hands back where it refuses: not as many shares came as the desk gave out.
-/// Source: profile.
+/// The parts that [`gather`] hands back if it refuses: not as many shares came as the desk gave
+/// out.
 #[derive(Drop)]
 pub struct Ungathered<N: Names> {
-    /// The desk as it was. Source: profile.
+    /// The desk as it was.
     pub desk: Desk<N>,
-    /// The shares as they were, in their order. Source: profile.
+    /// The shares as they were, in their order.
     pub shares: Vec<Share<N>>,
 }
 
@@ -427,7 +424,7 @@ fn end_desk<N: Names>(desk: Desk<N>, shares: Vec<Share<N>>) -> (Machine, Totals)
 /// together, which is what the machine's totals grew by. The history leads to that machine from the
 /// one with which the desk was made; of each share's number it has just what its holder asked and
 /// was answered, and it has no other calls. A taker that the desk has, and pulses that are owed,
-/// end with it. Source: profile.
+/// end with it.
 ///
 /// # Errors
 ///

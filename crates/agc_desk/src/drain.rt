@@ -10,15 +10,14 @@ use agc_latch::{Latch, Line};
 use agc_machine::Refusal;
 use agc_plan::pulse_request;
 
-/// What a drain did. Source: profile.
+/// The outcome of a drain.
 #[derive(Clone, Copy, PartialEq, Eq)]
 pub struct Drained {
-    /// How many pulses were taken, per line: the timer's, the keyboard's, the radar's. Source:
-    /// profile.
+    /// How many pulses were taken, per line: the timer's, the keyboard's, the radar's.
     pub taken: [u64; 3],
-    /// How many were applied, of these and of those that were owed before. Source: profile.
+    /// How many were applied, of these and of those that were owed before.
     pub applied: [u64; 3],
-    /// Why no more were applied; none where nothing is owed any more. Source: profile.
+    /// Why no more were applied; none where nothing is owed any more.
     pub refused: Option<Refusal>,
 }
 
@@ -69,7 +68,7 @@ impl<N: Names> Desk<N> {
     /// the last is served, and one that asks for nothing is applied by no request. The first
     /// request that is refused ends the drain: the rest stays owed, a pulse of which some requests
     /// were served with what it still asks for. An alarm stops nothing. The requests, the refused
-    /// one too, are asked with this share. The latch has to be the taker's. Source: profile.
+    /// one too, are asked with this share. The latch has to be the taker's.
     pub fn drain(&mut self, latch: &Latch, share: &mut Share<N>) -> Drained
         requires { IsOf latch.now self.old.lines.taker }
         ensures { Drains self.old share.old result self.new share.new }

@@ -10,8 +10,7 @@ use agc_plan::Line;
 use std::alloc::Global;
 use std::marker::{Model, PhantomData};
 
-/// A history of no calls that has no name in the types yet. Contracts see it as its name. Source:
-/// profile.
+/// A history of no calls that has no name in the types yet. Contracts see it as its name.
 #[derive(Drop)]
 pub struct Opened {
     ties: Ties,
@@ -63,7 +62,8 @@ impl<N: Names> Model for History<N> {
         × (h.keeper.me.0.keeps ≡ true) × (h.keeper.me.0.given ≡ h.given) };
 }
 
-/// What the holder of a share asked and was answered, and its number. Contracts see it as these.
+/// The requests of a share's holder, the answers, and the share's number. Contracts see it as
+/// these.
 #[derive(Drop)]
 pub(crate) struct Own<N: Names> {
     pass: TieSeat,

@@ -18,7 +18,7 @@ ghost use Rattle.agc_desk.specs.Laws.{DoesOneEach, IsOneOrNone, whole_of};
 /// ask for, each once. A drain serves whole pulses, as many of each line as it says it applied, and
 /// leaves whole pulses, as many as are owed.
 ///
-/// The like of [`agc_plan::laws::one_action_is_done_as_by_itself`], for pulses. Source: profile.
+/// The like of [`agc_plan::laws::one_action_is_done_as_by_itself`], for pulses.
 pub fn pulses_of_one_action_are_whole()
     ensures action { (act : Action) → length (requests_for (act ∷ [])) ≤ 1 }
     ensures asked { (plan : Planned) (line : Line) → DoesOneEach plan

@@ -9,7 +9,7 @@ use crate::names::{A1201, A1202, A1203, Blanks, Names, Restarts, Served};
 use agc_machine::Totals;
 use std::marker::Model;
 
-/// What one holder was told of each of the five numbers. Contracts see it as these.
+/// One holder's counts of each of the five numbers. Contracts see it as these.
 #[derive(Drop)]
 pub(crate) struct Amounts<N: Names> {
     served: ShareCount<Served<N>>,
@@ -34,7 +34,7 @@ impl<N: Names> Model for Amounts<N> {
 }
 
 impl<N: Names> Amounts<N> {
-    /// What its holder was told so far.
+    /// The holder's counts so far.
     pub(crate) fn told(&self) -> Totals
         ensures { result ≡ self.now }
     {

@@ -9,7 +9,7 @@
 //!
 //! Devices post pulses without the lock, on the lines of a latch whose taker the desk has. The desk
 //! takes them and asks what they ask for ([`Desk::drain`], [`attend`]). When all devices are back,
-//! [`settle`] returns what became of each line's pulses. Source: profile.
+//! [`settle`] returns what became of each line's pulses.
 #![tactic(auto)]
 
 mod caller;

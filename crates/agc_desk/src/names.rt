@@ -17,15 +17,15 @@ use std::sync::ledger::{Blank, Ledger};
 /// desk.
 const PARTS: u64 = 65;
 
-/// What the type of a desk says of it: which five ledgers it has, one for each number of
-/// [`Totals`], which history, and with which machine it was made. Source: profile.
+/// The names in the type of a desk: its five ledgers, one for each number of [`Totals`], its
+/// history, and the machine with which it was made.
 ///
 /// A function that is generic over it is called with `Brand`, and the call picks names and machine.
 pub trait Names {
-    /// The names of the five ledgers and of the history. Source: profile.
+    /// The names of the five ledgers and of the history.
     ghost names: { DeskNames };
 
-    /// The machine with which the desk is made. Source: profile.
+    /// The machine with which the desk is made.
     ghost first: { Machined };
 }
 
@@ -35,21 +35,20 @@ impl Names for Brand {
     ghost first = { no_machine };
 }
 
-/// What the type of a desk under a lock says besides: how many of its shares may be given out while
-/// it is there, with which calls its history begins, and of which latch its taker is. A call with
-/// `Brand` picks these too. Source: profile.
+/// The names in the type of a desk under a lock, besides those of the desk: how many of its shares
+/// may be given out while it is there, with which calls its history begins, and of which latch its
+/// taker is. A call with `Brand` picks these too.
 pub trait Sharing: Names {
-    /// Whether as many shares may be given out while the desk is under the lock. Source: profile.
+    /// Whether as many shares may be given out while the desk is under the lock.
     ghost may_share: { ℕ → Bool };
 
-    /// The calls with which the history begins. Source: profile.
+    /// The calls with which the history begins.
     ghost begun: { List Call };
 
-    /// The latch that the desk's taker is of, if it has one. Source: profile.
+    /// The latch that the desk's taker is of, if it has one.
     ghost latch: { TableId };
 
-    /// What stays of the desk's accounts of lines while it is under the lock, where anything is
-    /// said of them. Source: profile.
+    /// The part of the desk's accounts of lines that stays while it is under the lock, if any does.
     ghost lent: { Option Lent };
 }
 
@@ -121,7 +120,7 @@ impl<N: Names> Ledger for Restarts<N> {
 /// Five ledgers that have no names in the types yet, of 65 parts each, in fields named as those of
 /// [`Totals`], and a history of no calls.
 ///
-/// They are made before the function that is generic over their names is called. Source: profile.
+/// They are made before the function that is generic over their names is called.
 #[derive(Drop)]
 pub struct Blanks {
     /// For the requests that were served.
@@ -134,7 +133,7 @@ pub struct Blanks {
     pub a1203: Blank,
     /// For the requests with which an era began.
     pub restarts: Blank,
-    /// The history. Source: profile.
+    /// The history.
     pub history: Opened,
     ghost served_parts: { served.parts ≡ 65 },
     ghost a1201_parts: { a1201.parts ≡ 65 },
@@ -144,7 +143,7 @@ pub struct Blanks {
 }
 
 impl Blanks {
-    /// Five new ledgers, of which nothing was booked, and a new history. Source: profile.
+    /// Five new ledgers, of which nothing was booked, and a new history.
     ///
     /// # Errors
     ///

@@ -6,22 +6,22 @@ use crate::desk::Desk;
 use crate::names::Names;
 use agc_latch::{Device, Latch, Settled, Unjoined};
 
-/// What [`settle`] hands back where it refuses: the desk has no taker, or not as many devices came
-/// as were given out under it. Source: profile.
+/// The parts that [`settle`] hands back if it refuses: the desk has no taker, or not as many
+/// devices came as were given out under it.
 #[derive(Drop)]
 pub struct Unsettled<N: Names> {
-    /// The desk as it was. Source: profile.
+    /// The desk as it was.
     pub desk: Desk<N>,
-    /// The latch as it was. Source: profile.
+    /// The latch as it was.
     pub latch: Latch,
-    /// The devices as they were, in their order. Source: profile.
+    /// The devices as they were, in their order.
     pub devices: Vec<Device>,
 }
 
 /// Settles a desk's latch: takes the devices back, takes each line once more into what is owed, and
 /// closes the latch. It gives the desk, which has no taker then and is else as it was but for its
 /// lines, and what became of the pulses of all its latches, earlier ones too: each that was posted
-/// is applied or owed. Source: profile.
+/// is applied or owed.
 ///
 /// # Errors
 ///

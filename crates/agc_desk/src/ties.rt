@@ -15,17 +15,17 @@ use std::collections::LinkedList;
 use std::marker::{Brand, PhantomData};
 
 /// With which share a request was asked, what it was, and its answer. No value of this type is ever
-/// made: the history of a desk exists only in proofs. Source: profile.
+/// made: the history of a desk exists only in proofs.
 pub struct Call {
-    /// The share's number. Source: profile.
+    /// The share's number.
     pub by: u64,
-    /// The request and its answer. Source: profile.
+    /// The request and its answer.
     pub answer: Answer,
-    /// Of which line's pulse it is, if it is a pulse's. Source: profile.
+    /// Of which line's pulse it is, if it is a pulse's.
     pub pulse: Option<Line>,
 }
 
-/// What a seat knows. No value of it is made.
+/// The knowledge of a seat. No value of it is made.
 pub struct View {
     pub keeps: bool,
     pub calls: LinkedList<Call>,

@@ -29,7 +29,7 @@ bench_fault ManyAreas = TooManyAreas
 abbrev pub HasTexts : Option Members → Texts → Type 0
 HasTexts read texts = (ms : Members) × (read ≡ Some ms) × (texts_by WORKERS DEVICES ms ≡ Some texts)
 
--- why numbers and texts spell no bench, by their first fault, want of memory aside: a text of no
+-- why numbers and texts spell no bench, by their first fault, unless memory runs out: a text of no
 -- form, or a bench in its ranges whose rows and entries make no plan
 abbrev pub RefusesTexts : Texts → BenchFault → Type 0
 RefusesTexts texts NoMemoryForBench = Unit {0}
@@ -39,7 +39,7 @@ RefusesTexts texts NoLine = (b : Benched) → IsInRange b → texts ≢ bench_te
 RefusesTexts texts fault = (b : Benched) × IsInRange b × (texts ≡ bench_texts b)
     × (option_map bench_fault (fault_of b.rows b.entries) ≡ Some fault)
 
--- why a document is no bench, by its first fault, want of memory aside
+-- why a document is no bench, by its first fault, unless memory runs out
 abbrev pub RefusesBench : Option Members → BenchFault → Type 0
 RefusesBench document NoMemoryForBench = Unit {0}
 RefusesBench document NotToml = document ≡ None

@@ -12,12 +12,12 @@ use Rattle.agc_document.specs.declared.rows.TheConstants as key
 use Rattle.agc_document.specs.Rows.{name_of, kind_of, bounds_of}
 use Rattle.agc_document.specs.Texts.{RowTexts, EntryTexts, DeviceTexts, Settings, Lists, Texts}
 
--- whether a key is one of these
+-- whether a key is in a list
 abbrev pub is_among : List (List ℕ) → List ℕ → Bool
 is_among [] k = false
 is_among (n ∷ ns) k = bytes_eq n k || is_among ns k
 
--- whether every key is one of these
+-- whether every key of a table is in a list
 abbrev pub has_only : List (List ℕ) → Members → Bool
 has_only names no_members = true
 has_only names (member k d ms) = is_among names k && has_only names ms
@@ -54,26 +54,26 @@ flag_of k d = as_bool d
 abbrev pub text_of : AnyKey → Data → Option (List ℕ)
 text_of k d = as_str d
 
--- what reading gives of each item in turn
+-- all items, each read in turn; None if one of them can't be read
 abbrev pub each : {X : Type 0} → (Data → Option X) → Items → Option (List X)
 each read no_items = Some []
 each read (item d ds) = read d >>= λ x. each read ds >>= λ xs. Some (x ∷ xs)
 
--- items, if the key allows so many
-abbrev pub counted : {X : Type 0} → AnyKey → List X → Option (List X)
-counted k xs =
+-- items, if the key allows this many
+abbrev pub in_bounds : {X : Type 0} → AnyKey → List X → Option (List X)
+in_bounds k xs =
     if nat_lt (length xs) (least k) || nat_lt (most k) (length xs) then None else Some xs
 
 -- the items of an array, as many as a key allows
 abbrev pub items_of : {X : Type 0} → (Data → Option X) → AnyKey → Data → Option (List X)
-items_of read k d = (as_array d >>= each read) >>= counted k
+items_of read k d = (as_array d >>= each read) >>= in_bounds k
 
 -- a text alone, where a key may have one
 abbrev pub one_in : Kind → Data → Option (List ℕ)
 one_in (kind.OneOrMore form low high) d = as_str d
 one_in _ d = None
 
--- what reading gives of a table that has these keys and no others
+-- a table, read by its fields, that has these keys and no others
 abbrev pub table_with : {X : Type 0} → List AnyKey → (Members → Option X) → Data → Option X
 table_with keys fields d = (as_table d >>= known_to keys) >>= fields
 
@@ -85,17 +85,17 @@ tables_of keys fields k d = items_of (table_with keys fields) k d
 -- some texts, or one alone
 abbrev pub texts_of : AnyKey → Data → Option (List (List ℕ))
 texts_of k d =
-    elim (one_in (kind_of k) d) [ Some text ↦ counted k (text ∷ []) | None ↦ items_of as_str k d ]
+    elim (one_in (kind_of k) d) [ Some text ↦ in_bounds k (text ∷ []) | None ↦ items_of as_str k d ]
 
--- what reading gives of a required key
+-- the value of a required key
 abbrev pub read_at : {X : Type 0} → (AnyKey → Data → Option X) → AnyKey → Members → Option X
 read_at read k ms = value_of k ms >>= read k
 
--- what reading gives of a key, and what stands for it where it is missing
+-- the value of a key, or a default if it is missing
 abbrev pub read_or : {X : Type 0} → X → (AnyKey → Data → Option X) → AnyKey → Members → Option X
 read_or missing read k ms = elim (value_of k ms) [ Some d ↦ read k d | None ↦ Some missing ]
 
--- what reading gives of a key, if it is there
+-- the value of a key, if it is there
 abbrev pub read_if : {X : Type 0} → (AnyKey → Data → Option X) → AnyKey → Members
     → Option (Option X)
 read_if read k ms = read_or None (λ key d. read key d >>= λ x. Some (Some x)) k ms
@@ -144,7 +144,7 @@ numbers_in ms = do
   attends ← read_or 16 number_of key.ATTENDS ms
   Some (sets, limit, allowance, attends)
 
--- what a bench has once
+-- the single values of a bench
 unfoldable pub settings_in : Members → Option Settings
 settings_in ms = do
   numbers ← numbers_in ms
@@ -161,7 +161,7 @@ settings_in ms = do
     power = power;
   })
 
--- what a bench has many of, by the keys of its workers and its devices
+-- the lists of a bench, by the keys of its workers and its devices
 unfoldable pub lists_in : (workers devices : AnyKey) → Members → Option Lists
 lists_in workers devices ms = do
   first ← read_or [] texts_of key.SCRIPT ms

@@ -1,4 +1,5 @@
 pub mod Rows
+pub mod KeyTable
 pub mod Texts
 pub mod Keys
 pub mod Gives

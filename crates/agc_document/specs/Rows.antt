@@ -8,7 +8,7 @@ use Rattle.agc_document.specs.declared.key.Kind.TheVariants as kind
 use Rattle.agc_document.specs.declared.key.Key.{Key as AnyKey}
 use Rattle.agc_document.specs.declared.key.Key.TheVariants.{Required, Optional}
 
--- what a key is called; the last are names that only scenarios have
+-- the spelling of a key's name; only scenarios have the last ones
 abbrev pub name_text : KeyName → List ℕ
 name_text name.Action = codes "action"
 name_text name.Allowance = codes "allowance"
@@ -51,7 +51,7 @@ abbrev pub name_of : AnyKey → List ℕ
 name_of (Required n kind) = name_text n
 name_of (Optional n kind) = name_text n
 
--- what its value is
+-- the kind of a key's value
 abbrev pub kind_of : AnyKey → Kind
 kind_of (Required n kind) = kind
 kind_of (Optional n kind) = kind

@@ -19,7 +19,7 @@ pub record DeviceTexts : Type 0 where
   pub line : List ℕ
   pub pulses : ℕ
 
--- what a bench has once, of both pulses a text for each action
+-- the single values of a bench; each of the two pulses has a text per action
 pub record Settings : Type 0 where
   pub sets : ℕ
   pub limit : ℕ
@@ -29,7 +29,7 @@ pub record Settings : Type 0 where
   pub radar : List (List ℕ)
   pub power : Option (List (List ℕ))
 
--- what a bench has many of
+-- the lists of a bench
 pub record Lists : Type 0 where
   pub script : List (List ℕ)
   pub rows : List RowTexts

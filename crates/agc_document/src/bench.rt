@@ -17,7 +17,7 @@ use crate::fault::BenchFault;
 use crate::keys::texts_by;
 use crate::notes::Notes;
 use crate::rows::{DEVICES, WORKERS};
-use crate::tables::{Site, table_of};
+use crate::tables::{LocatedTable, table_of};
 use crate::texts::{Settings, Texts};
 use crate::twice::refused_at;
 use crate::values::{actions_of, all_spelled, power_of, workers_of};
@@ -67,7 +67,7 @@ impl Model for Parts {
 }
 
 /// A bench: what a machine is run on. Its numbers are in their ranges, and its rows and entries
-/// make a plan. Contracts see its values. Source: profile.
+/// make a plan. Contracts see its values.
 #[derive(Drop)]
 pub struct Bench {
     parts: Parts,
@@ -84,21 +84,21 @@ impl Model for Bench {
 }
 
 impl Bench {
-    /// How many core sets the machine has. Source: profile.
+    /// How many core sets the machine has.
     pub fn sets(&self) -> Sets
         ensures { count_of result ≡ self.now.sets }
     {
         self.parts.sets
     }
 
-    /// How many requests the log may hold, 1 to 1,000,000. Source: profile.
+    /// How many requests the log may hold, 1 to 1,000,000.
     pub fn limit(&self) -> Limit
         ensures { result ≡ self.now.limit }
     {
         self.parts.limit
     }
 
-    /// How many requests the machine may serve, below 2 to the 63rd. Source: profile.
+    /// How many requests the machine may serve, below 2 to the 63rd.
     pub fn allowance(&self) -> u64
         ensures value { result ≡ self.now.allowance }
         ensures range { result ≤ 9223372036854775807 }
@@ -107,7 +107,6 @@ impl Bench {
     }
 
     /// How often one thread attends to pulses while `threads` of `agc_bench` runs, 0 to 1000.
-    /// Source: profile.
     pub fn attends(&self) -> u32
         ensures value { result ≡ self.now.attends }
         ensures range { result ≤ 1000 }
@@ -115,7 +114,7 @@ impl Bench {
         self.parts.attends
     }
 
-    /// What is done for a key pulse, in order: one to four actions. Source: profile.
+    /// The actions of a key pulse, in order: one to four.
     pub fn key(&self) -> &Actions
         ensures value { result.now ≡ self.now.key }
         ensures range { IsBetween 1 4 (length result.now) }
@@ -123,7 +122,7 @@ impl Bench {
         &self.parts.key
     }
 
-    /// What is done for a radar pulse, in order: one to four actions. Source: profile.
+    /// The actions of a radar pulse, in order: one to four.
     pub fn radar(&self) -> &Actions
         ensures value { result.now ≡ self.now.radar }
         ensures range { IsBetween 1 4 (length result.now) }
@@ -131,39 +130,38 @@ impl Bench {
         &self.parts.radar
     }
 
-    /// The twelve phase words of a power-up, -PHASE1 first. None for a fresh start. Source:
-    /// profile.
+    /// The twelve phase words of a power-up, -PHASE1 first. None for a fresh start.
     pub fn power(&self) -> Option<[Word; 12]>
         ensures { result ≡ self.now.power }
     {
         self.parts.power
     }
 
-    /// The requests that are asked first, in order. Source: profile.
+    /// The requests that come first, in order.
     pub fn script(&self) -> &[Request]
         ensures { result.now ≡ self.now.script }
     {
         self.parts.script.as_slice()
     }
 
-    /// The actions of each task that has some. Together with `entries` these rows make a plan,
-    /// unless memory runs out. Source: profile.
+    /// The actions of each task that has any. Together with `entries` these rows make a plan,
+    /// unless memory runs out.
     pub fn rows(&self) -> &[(Task, Actions)]
         ensures value { result.now ≡ self.now.rows }
-        ensures planned { fault_of self.now.rows self.now.entries ≡ None }
+        ensures check_plan { fault_of self.now.rows self.now.entries ≡ None }
     {
         self.parts.rows.as_slice()
     }
 
-    /// What begins with each era while its group is in its phase. Source: profile.
+    /// The restart entries: each begins with an era while its group is in its phase.
     pub fn entries(&self) -> &[PhaseEntry]
         ensures value { result.now ≡ self.now.entries }
-        ensures planned { fault_of self.now.rows self.now.entries ≡ None }
+        ensures check_plan { fault_of self.now.rows self.now.entries ≡ None }
     {
         self.parts.entries.as_slice()
     }
 
-    /// The requests of each worker, in order; at most 32 workers. Source: profile.
+    /// The requests of each worker, in order; at most 32 workers.
     pub fn workers(&self) -> &[Vec<Request>]
         ensures value { map (λ w. w.items) result.now ≡ self.now.workers }
         ensures few { length result.now ≤ 32 }
@@ -172,7 +170,6 @@ impl Bench {
     }
 
     /// The line of each device, and how many pulses it sends, 0 to 1,000,000; at most 32 devices.
-    /// Source: profile.
     pub fn devices(&self) -> &[(Line, u32)]
         ensures value { result.now ≡ self.now.devices }
         ensures few { length result.now ≤ 32 }
@@ -181,7 +178,7 @@ impl Bench {
     }
 }
 
-/// What an option holds, and a fault `Line` where there is nothing. Source: profile.
+/// The value of an option. A fault `Line` if there is none.
 pub fn or_line<T: Drop>(value: Option<T>) -> Result<T, BenchFault>
     ensures found { IfOk result (λ x. value ≡ Some x) }
     ensures refused { IfErr result (λ fault. (fault ≡ BenchFault.Line) × (value ≡ None)) }
@@ -192,7 +189,7 @@ pub fn or_line<T: Drop>(value: Option<T>) -> Result<T, BenchFault>
     }
 }
 
-/// The limit, what is done for both pulses, and the power-up that numbers and texts spell.
+/// The limit, the actions of both pulses, and the power-up that numbers and texts spell.
 fn once_of(texts: &Settings<'_>) -> Option<(Limit, Actions, Actions, Option<[Word; 12]>)>
     ensures limit { IfSome result (λ p. IsBetween 1 1000000 p.0 × (texts.now.limit ≡ p.0)) }
     ensures key { IfSome result (λ p. AreActions p.1
@@ -248,8 +245,8 @@ fn parts_of(alloc: Global, texts: &Texts<'_>) -> Result<Parts, BenchFault>
     }
 }
 
-/// Whether the rows and entries of parts make a plan.
-fn planned(alloc: Global, parts: &Parts) -> Result<(), PlanFault>
+/// Checks whether the rows and entries of parts make a plan.
+fn check_plan(alloc: Global, parts: &Parts) -> Result<(), PlanFault>
     ensures found { IfOk result (λ _. fault_of parts.now.rows parts.now.entries ≡ None) }
     ensures refused { IfErr result (λ fault. (fault ≡ PlanFault.NoMemory)
         ⊎ (fault_of parts.now.rows parts.now.entries ≡ Some fault)) }
@@ -266,8 +263,8 @@ fn planned(alloc: Global, parts: &Parts) -> Result<(), PlanFault>
     }
 }
 
-/// Notes the place of a plan's fault, and returns the fault that a bench has for it; `NoMemory`,
-/// where there is none to find the place.
+/// Notes the place of a plan's fault, and returns the fault that a bench has for it; `NoMemory` if
+/// there is none to find the place.
 fn fault_at(alloc: Global, fault: PlanFault, parts: &Parts, notes: &mut Notes<'_>) -> BenchFault
     ensures { (result ≡ BenchFault.NoMemory) ⊎ (result ≡ bench_fault fault) }
 {
@@ -285,8 +282,8 @@ fn fault_at(alloc: Global, fault: PlanFault, parts: &Parts, notes: &mut Notes<'_
     }
 }
 
-/// The bench that numbers and texts spell; each text was looked at when it was read. Where rows and
-/// entries make no plan, the place is noted. Source: profile.
+/// The bench that numbers and texts spell; each text was checked when it was read. If rows and
+/// entries make no plan, the place is noted.
 ///
 /// # Errors
 ///
@@ -302,14 +299,13 @@ pub fn bench_from(
     ensures refused { IfErr result (RefusesTexts texts.now) }
 {
     let parts = parts_of(alloc, texts)?;
-    match planned(alloc, &parts) {
+    match check_plan(alloc, &parts) {
         Ok(()) => Ok(Bench { parts }),
         Err(fault) => Err(fault_at(alloc, fault, &parts, notes)),
     }
 }
 
-/// The bench that a document's table is. What is wrong is noted, if that is wanted. Source:
-/// profile.
+/// The bench that a document's table is. Faults are noted, if that is wanted.
 ///
 /// # Errors
 ///
@@ -324,12 +320,16 @@ pub fn bench_of<'a>(
         × HasTexts (Some (table_view table.now)) (bench_texts b)) }
     ensures refused { IfErr result (RefusesBench (Some (table_view table.now))) }
 {
-    let texts = texts_by(Site::of_document(alloc, table), WORKERS, DEVICES, notes)?;
+    let texts = texts_by(
+        LocatedTable::of_document(alloc, table),
+        WORKERS,
+        DEVICES,
+        notes,
+    )?;
     bench_from(alloc, &texts, notes)
 }
 
-/// The bench that a TOML document is: its values, and for each key that is missing the value that
-/// stands for it. Source: profile.
+/// The bench that a TOML document is: its values, and the default of each key that is missing.
 ///
 /// # Errors
 ///

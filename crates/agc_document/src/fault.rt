@@ -6,7 +6,7 @@ use std::alloc::{AllocError, AllocFailed};
 use std::fmt;
 
 /// Why a bench is refused. If there are several faults, the first one in this order is returned; if
-/// memory runs out, `NoMemory` may come in place of any. Source: profile.
+/// memory runs out, `NoMemory` may come in place of any.
 #[derive(Clone, Copy, PartialEq, Eq, Debug)]
 pub enum BenchFault {
     NoMemory,

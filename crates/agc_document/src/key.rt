@@ -1,11 +1,11 @@
-//! The keys of a document: what each is called, and what its value is.
+//! The keys of a document: their names, and the kinds of their values.
 ghost use Rattle.std.specs.Prelude.{◌≡◌};
 ghost use Rattle.agc_document.specs.Rows.{name_text, name_of, kind_of, bounds_of};
 
 use crate::values::{is_name, is_step, job_of, leaving_of, parse_kind, timed_of};
 use agc_text::{parse_action, parse_address, parse_line, parse_word};
 
-/// What a key is called that only scenarios have. Source: profile.
+/// The name of a key that only scenarios have.
 #[derive(Clone, Copy)]
 pub enum TimeName {
     After,
@@ -26,7 +26,7 @@ pub enum TimeName {
     Until,
 }
 
-/// What a key is called. Source: profile.
+/// The name of a key.
 #[derive(Clone, Copy)]
 pub enum KeyName {
     Action,
@@ -53,9 +53,9 @@ pub enum KeyName {
     Time(TimeName),
 }
 
-/// What a text spells. Source: profile.
+/// The form that a text must have.
 #[derive(Clone, Copy)]
-pub enum Form {
+pub enum TextForm {
     Request,
     Action,
     /// A request that establishes a job.
@@ -68,44 +68,44 @@ pub enum Form {
     Device,
     /// A request by which a job leaves: it ends, or falls asleep.
     Leaving,
-    /// A request for which a job may ask before it leaves.
+    /// A request that a job may make before it leaves.
     Step,
     /// One line that can be shown: without control characters.
     Name,
 }
 
-/// What the value of a key is. Source: profile.
+/// The kind of a key's value, and its range.
 #[derive(Clone, Copy)]
 pub enum Kind {
-    /// An integer between two bounds. The key may have other values, too, which its reader knows.
+    /// An integer between two bounds. A key that takes other values, too, has a reader that knows
+    /// them.
     Integer(u64, u64),
     /// True or false.
     Flag,
-    Text(Form),
+    Text(TextForm),
     /// One text, or an array of texts, as many as two bounds say.
-    OneOrMore(Form, u64, u64),
+    OneOrMore(TextForm, u64, u64),
     /// An array of texts, as many as two bounds say.
-    Texts(Form, u64, u64),
+    Texts(TextForm, u64, u64),
     /// An array of tables, as many as two bounds say.
     Tables(u64, u64),
     /// An array of workers or devices that are explored, as many as two bounds say.
     Explored(u64, u64),
 }
 
-/// A key of a table: what it is called, what its value is, and whether the table must have it.
-/// Source: profile.
+/// A key of a table: its name, the kind of its value, and whether the table must have it.
 #[derive(Clone, Copy)]
 pub enum Key {
     Required(KeyName, Kind),
     Optional(KeyName, Kind),
 }
 
-/// As many as there may be.
+/// No upper bound on the number of items.
 pub const ANY: u64 = u64::MAX;
 
 impl TimeName {
     /// The name itself.
-    fn called(self) -> &'static str
+    fn own_text(self) -> &'static str
         ensures { result.now ≡ name_text (KeyName.Time self) }
     {
         match self {
@@ -130,7 +130,7 @@ impl TimeName {
 }
 
 impl KeyName {
-    /// The name itself. Source: profile.
+    /// The name itself.
     pub fn text(self) -> &'static str
         ensures { result.now ≡ name_text self }
     {
@@ -155,13 +155,13 @@ impl KeyName {
             KeyName::Sets => "sets",
             KeyName::Task => "task",
             KeyName::Worker => "worker",
-            KeyName::Time(name) => name.called(),
+            KeyName::Time(name) => name.own_text(),
         }
     }
 }
 
 impl Key {
-    /// What it is called. Source: profile.
+    /// The name as it is spelled in a document.
     pub fn name(self) -> &'static str
         ensures { result.now ≡ name_of self }
     {
@@ -171,7 +171,7 @@ impl Key {
         }
     }
 
-    /// What its value is. Source: profile.
+    /// The kind of its value.
     pub fn kind(self) -> Kind
         ensures { result ≡ kind_of self }
     {
@@ -181,8 +181,7 @@ impl Key {
         }
     }
 
-    /// The least and the most that its integer may be, or that its array may have of items. Source:
-    /// profile.
+    /// The least and the most for its integer, or for the number of items of its array.
     pub fn bounds(self) -> (u64, u64)
         ensures { result ≡ bounds_of (kind_of self) }
     {
@@ -196,9 +195,8 @@ impl Key {
         }
     }
 
-    /// What its text spells, or each text of its array. None where it has no texts. Source:
-    /// profile.
-    pub fn form(self) -> Option<Form> {
+    /// The form of its text, or of each text of its array. None if its value has no texts.
+    pub fn form(self) -> Option<TextForm> {
         match self.kind() {
             Kind::Integer(_low, _high) => None,
             Kind::Flag => None,
@@ -211,32 +209,32 @@ impl Key {
     }
 }
 
-impl Form {
+impl TextForm {
     /// Whether a text is of this form.
     pub(crate) fn is_spelled_by(self, text: &str) -> bool {
         match self {
-            Form::Request => parse_line(text).is_some(),
-            Form::Action => parse_action(text).is_some(),
-            Form::Job => match parse_line(text) {
+            TextForm::Request => parse_line(text).is_some(),
+            TextForm::Action => parse_action(text).is_some(),
+            TextForm::Job => match parse_line(text) {
                 Some(request) => job_of(&request).is_some(),
                 None => false,
             },
-            Form::Listing => match parse_line(text) {
+            TextForm::Listing => match parse_line(text) {
                 Some(request) => timed_of(&request).is_some(),
                 None => false,
             },
-            Form::Address => parse_address(text).is_some(),
-            Form::Word => parse_word(text).is_some(),
-            Form::Device => parse_kind(text).is_some(),
-            Form::Leaving => match parse_line(text) {
+            TextForm::Address => parse_address(text).is_some(),
+            TextForm::Word => parse_word(text).is_some(),
+            TextForm::Device => parse_kind(text).is_some(),
+            TextForm::Leaving => match parse_line(text) {
                 Some(request) => leaving_of(&request).is_some(),
                 None => false,
             },
-            Form::Step => match parse_line(text) {
+            TextForm::Step => match parse_line(text) {
                 Some(request) => is_step(&request),
                 None => false,
             },
-            Form::Name => is_name(text),
+            TextForm::Name => is_name(text),
         }
     }
 }

@@ -1,8 +1,8 @@
-//! What is wrong with a key.
+//! Faults of keys.
 use crate::key::Key;
 
-/// Which table a key belongs to: the bench or scenario itself, a table of an array, or the table
-/// that a job's cost is. Source: profile.
+/// The level of a key: the bench or scenario itself, a table of an array, or the table of a job's
+/// cost.
 #[derive(Clone, Copy, PartialEq, Eq)]
 pub enum Level {
     Bench,
@@ -21,19 +21,19 @@ pub enum Level {
     Event,
 }
 
-/// What is wrong with a key. Source: profile.
+/// Why a key is refused.
 #[derive(Clone, Copy)]
 pub enum KeyFault {
     /// The finding's text is no key of a table of this level.
     Unknown(Level),
-    /// It is required, and missing.
+    /// The key is required, and missing.
     Missing(Key),
-    /// Its value is of another kind, out of range, or of another length. The finding's text is the
-    /// digits where a text is expected.
+    /// The value is of another kind, out of range, or of another length. If a text is expected, the
+    /// finding quotes the value's digits.
     Value(Key),
-    /// So is an item of its array.
+    /// An item of the key's array is of another kind, or out of range.
     Item(Key),
-    /// The row of stolen time ends before it begins, or as it does.
+    /// The row of stolen time ends before it begins, or at the same time.
     Backward,
     /// The row of stolen time begins again before it ends.
     OverlapsItself,
@@ -41,10 +41,10 @@ pub enum KeyFault {
     Overlap,
     /// An earlier job has the same address.
     JobTwice,
-    /// The least that a job may cost is more than the most.
+    /// A job's least cost is above its most.
     LeastAboveMost,
     /// The cost of a job is drawn by lot, and the scenario has no seed.
     NoSeed,
-    /// No event above it has the name of the one from which it counts.
+    /// No event above this one has the name from which it counts.
     NoneAbove,
 }

@@ -19,7 +19,7 @@ use crate::rows::{
     JOB, KEY, LIMIT, LINE, LISTING, PHASE, PHASE_KEYS, PHASES, POWER, PULSES, RADAR, REQUESTS,
     SCRIPT, SETS, TASK_KEYS, TASKS, WORKER_KEYS,
 };
-use crate::tables::{FromTable, Site, has_only, items_or_none, read_at, read_if, read_or};
+use crate::tables::{FromTable, LocatedTable, has_only, items_or_none, read_at, read_if, read_or};
 use crate::texts::{
     DeviceTexts, EntryTexts, Lists, RowTexts, Settings, TextList, Texts, WorkerTexts,
 };
@@ -30,13 +30,17 @@ impl<'a> FromTable<'a> for RowTexts<'a> {
 
     ghost fields = { λ k. row };
 
-    fn known(site: Site<'a>, _key: Key, notes: &mut Notes<'a>) -> Result<(), BenchFault> {
+    fn check_keys(
+        site: LocatedTable<'a>,
+        _key: Key,
+        notes: &mut Notes<'a>,
+    ) -> Result<(), BenchFault> {
         has_only(site, &TASK_KEYS, Level::Task, notes)
     }
 
     #[tactic(auto, unfolding(crate::specs::Keys::row))]
     fn from_table(
-        site: Site<'a>,
+        site: LocatedTable<'a>,
         _key: Key,
         notes: &mut Notes<'a>,
     ) -> Result<RowTexts<'a>, BenchFault> {
@@ -55,13 +59,17 @@ impl<'a> FromTable<'a> for EntryTexts<'a> {
 
     ghost fields = { λ k. entry };
 
-    fn known(site: Site<'a>, _key: Key, notes: &mut Notes<'a>) -> Result<(), BenchFault> {
+    fn check_keys(
+        site: LocatedTable<'a>,
+        _key: Key,
+        notes: &mut Notes<'a>,
+    ) -> Result<(), BenchFault> {
         has_only(site, &PHASE_KEYS, Level::Phase, notes)
     }
 
     #[tactic(auto, unfolding(crate::specs::Keys::entry))]
     fn from_table(
-        site: Site<'a>,
+        site: LocatedTable<'a>,
         _key: Key,
         notes: &mut Notes<'a>,
     ) -> Result<EntryTexts<'a>, BenchFault> {
@@ -87,7 +95,11 @@ impl<'a> FromTable<'a> for WorkerTexts<'a> {
 
     ghost fields = { λ k. read_at texts_of key_of.REQUESTS };
 
-    fn known(site: Site<'a>, key: Key, notes: &mut Notes<'a>) -> Result<(), BenchFault> {
+    fn check_keys(
+        site: LocatedTable<'a>,
+        key: Key,
+        notes: &mut Notes<'a>,
+    ) -> Result<(), BenchFault> {
         match key.kind() {
             Kind::Explored(_low, _high) => {
                 has_only(site, &EXPLORED_WORKER_KEYS, Level::Explored, notes)
@@ -97,7 +109,7 @@ impl<'a> FromTable<'a> for WorkerTexts<'a> {
     }
 
     fn from_table(
-        site: Site<'a>,
+        site: LocatedTable<'a>,
         _key: Key,
         notes: &mut Notes<'a>,
     ) -> Result<WorkerTexts<'a>, BenchFault> {
@@ -106,10 +118,14 @@ impl<'a> FromTable<'a> for WorkerTexts<'a> {
     }
 }
 
-/// How many pulses the device has that a table is, by the key of the devices. One that is explored
-/// and has no number of them never stops; it is given one.
+/// The number of pulses of a device's table, by the key of the devices. One that is explored and
+/// has no number never stops; it is given one.
 #[tactic(auto, unfolding(crate::specs::Keys::pulses_by))]
-fn pulses_by<'a>(site: Site<'a>, devices: Key, notes: &mut Notes<'a>) -> Result<u64, BenchFault>
+fn pulses_by<'a>(
+    site: LocatedTable<'a>,
+    devices: Key,
+    notes: &mut Notes<'a>,
+) -> Result<u64, BenchFault>
     ensures value { GivesOrKey (λ x. x) result
         (pulses_by (kind_of devices) (table_view site.entry.table.now)) }
     ensures range { IfOk result (λ x. x ≤ 1000000) }
@@ -125,13 +141,17 @@ impl<'a> FromTable<'a> for DeviceTexts<'a> {
 
     ghost fields = { device };
 
-    fn known(site: Site<'a>, _key: Key, notes: &mut Notes<'a>) -> Result<(), BenchFault> {
+    fn check_keys(
+        site: LocatedTable<'a>,
+        _key: Key,
+        notes: &mut Notes<'a>,
+    ) -> Result<(), BenchFault> {
         has_only(site, &DEVICE_KEYS, Level::Device, notes)
     }
 
     #[tactic(auto, unfolding(crate::specs::Keys::device))]
     fn from_table(
-        site: Site<'a>,
+        site: LocatedTable<'a>,
         key: Key,
         notes: &mut Notes<'a>,
     ) -> Result<DeviceTexts<'a>, BenchFault> {
@@ -147,7 +167,7 @@ impl<'a> FromTable<'a> for DeviceTexts<'a> {
     }
 }
 
-/// How many core sets a number says there are.
+/// The core sets that a number stands for.
 fn sets_for(number: u64) -> Sets
     requires { IsBetween 7 8 number }
     ensures { count_of result ≡ number }
@@ -162,7 +182,7 @@ fn sets_for(number: u64) -> Sets
 /// The numbers of a bench: its core sets, its limit, its allowance, and how often a thread attends.
 #[tactic(auto, unfolding(crate::specs::Keys::numbers_in))]
 fn numbers_in<'a>(
-    site: Site<'a>,
+    site: LocatedTable<'a>,
     notes: &mut Notes<'a>,
 ) -> Result<(Sets, u32, u64, u32), BenchFault>
     ensures value { GivesOrKey (λ n. (count_of n.0, n.1, n.2, n.3)) result
@@ -182,8 +202,12 @@ fn numbers_in<'a>(
     }
 }
 
-/// What is done for a pulse, by its key: nothing where it is missing.
-fn pulse_in<'a>(site: Site<'a>, key: Key, notes: &mut Notes<'a>) -> Result<TextList<'a>, BenchFault>
+/// The actions of a pulse, from its key; the action `nothing` if the key is missing.
+fn pulse_in<'a>(
+    site: LocatedTable<'a>,
+    key: Key,
+    notes: &mut Notes<'a>,
+) -> Result<TextList<'a>, BenchFault>
     requires { IsBetween (least key) (most key) 1 }
     ensures value { GivesOrKey (λ t. t) result
         (read_or (codes "nothing" ∷ []) texts_of key (table_view site.entry.table.now)) }
@@ -193,9 +217,12 @@ fn pulse_in<'a>(site: Site<'a>, key: Key, notes: &mut Notes<'a>) -> Result<TextL
     read_or(site, key, nothing, notes)
 }
 
-/// What a bench has once, of the table of a document.
+/// Reads the single values of a bench from the table of a document.
 #[tactic(auto, unfolding(crate::specs::Keys::settings_in))]
-pub fn settings_in<'a>(site: Site<'a>, notes: &mut Notes<'a>) -> Result<Settings<'a>, BenchFault>
+pub fn settings_in<'a>(
+    site: LocatedTable<'a>,
+    notes: &mut Notes<'a>,
+) -> Result<Settings<'a>, BenchFault>
     ensures value { GivesOrKey (λ s. s) result (settings_in (table_view site.entry.table.now)) }
 {
     let numbers = numbers_in(site, notes);
@@ -219,7 +246,7 @@ pub fn settings_in<'a>(site: Site<'a>, notes: &mut Notes<'a>) -> Result<Settings
 
 #[tactic(auto, unfolding(crate::specs::Keys::lists_in))]
 fn lists_in<'a>(
-    site: Site<'a>,
+    site: LocatedTable<'a>,
     workers: Key,
     devices: Key,
     notes: &mut Notes<'a>,
@@ -248,10 +275,10 @@ fn lists_in<'a>(
 }
 
 /// The numbers and texts of a document, by the keys of its workers and its devices. A fault `Key`
-/// where a key or the kind, range or length of its value is wrong, which is noted.
+/// if a key or the kind, range or length of its value is wrong, which is noted.
 #[tactic(auto, unfolding(crate::specs::Keys::texts_by))]
 pub fn texts_by<'a>(
-    site: Site<'a>,
+    site: LocatedTable<'a>,
     workers: Key,
     devices: Key,
     notes: &mut Notes<'a>,
@@ -261,8 +288,8 @@ pub fn texts_by<'a>(
     ensures value { GivesOrKey (λ t. t) result
         (texts_by workers devices (table_view site.entry.table.now)) }
 {
-    let known = has_only(site, &BENCH_KEYS, Level::Bench, notes);
-    let settings = known.and(settings_in(site, notes));
+    let check_keys = has_only(site, &BENCH_KEYS, Level::Bench, notes);
+    let settings = check_keys.and(settings_in(site, notes));
     let lists = lists_in(site, workers, devices, notes);
     match (settings, lists) {
         (Ok(settings), Ok(lists)) => Ok(Texts { settings, lists }),

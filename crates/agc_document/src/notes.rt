@@ -1,21 +1,21 @@
-//! What is found wrong while a document is read.
+//! The faults that are noted while a document is read.
 ghost use Rattle.std.specs.Prelude.{◌≡◌};
 ghost use Rattle.agc_document.specs.declared.fault.BenchFault.TheVariants.{Key as WrongKey};
 
 use crate::fault::BenchFault;
-use crate::key::{Form, Key};
+use crate::key::{Key, TextForm};
 use crate::key_fault::KeyFault;
-use crate::place::Place;
+use crate::location::Location;
 use crate::rows::SETS;
 use arrayvec::ArrayVec;
 
-/// How many faults of either kind are noted.
+/// The most faults of keys, and the most of texts, that are noted.
 pub const MOST_NOTED: usize = 20;
 
-/// What is wrong with a key at a place: its name where it is unknown.
+/// A fault of a key, with its place and, if the key is unknown, its name.
 #[derive(Clone, Copy)]
 pub struct KeyNote<'a> {
-    pub place: Place,
+    pub place: Location,
     pub text: &'a str,
     pub fault: KeyFault,
 }
@@ -23,7 +23,7 @@ pub struct KeyNote<'a> {
 impl<'a> Default for KeyNote<'a> {
     fn default() -> KeyNote<'a> {
         KeyNote {
-            place: Place::Whole,
+            place: Location::Whole,
             text: "",
             fault: KeyFault::Value(SETS),
         }
@@ -33,47 +33,45 @@ impl<'a> Default for KeyNote<'a> {
 /// A text at a place that isn't of its form.
 #[derive(Clone, Copy)]
 pub struct TextNote<'a> {
-    pub place: Place,
+    pub place: Location,
     pub text: &'a str,
-    pub form: Form,
+    pub form: TextForm,
 }
 
 impl<'a> Default for TextNote<'a> {
     fn default() -> TextNote<'a> {
         TextNote {
-            place: Place::Whole,
+            place: Location::Whole,
             text: "",
-            form: Form::Request,
+            form: TextForm::Request,
         }
     }
 }
 
-/// What is wrong with a document's keys, and with its texts, of either the first twenty; neither,
-/// where it isn't wanted. And the place where its rows and entries make no plan, the whole document
-/// where they make one. Source: profile.
+/// The faults of a document: the first twenty of its keys and the first twenty of its texts, or
+/// none if they aren't wanted; and the place where its rows and entries make no plan, or the whole
+/// document if they do.
 #[derive(Drop)]
 pub struct Notes<'a> {
     pub keys: ArrayVec<KeyNote<'a>, MOST_NOTED>,
     pub texts: ArrayVec<TextNote<'a>, MOST_NOTED>,
-    pub plan: Place,
+    pub plan: Location,
     is_whole: bool,
 }
 
 impl<'a> Notes<'a> {
-    /// Nothing yet. What is wrong with keys and texts is noted only if this is true. Source:
-    /// profile.
+    /// No notes yet. Faults of keys and texts are noted only if this is true.
     pub fn new(is_whole: bool) -> Notes<'a> {
         Notes {
             keys: ArrayVec::new(),
             texts: ArrayVec::new(),
-            plan: Place::Whole,
+            plan: Location::Whole,
             is_whole,
         }
     }
 
-    /// Notes what is wrong with a key, if that is wanted, and returns the fault `Key`. Source:
-    /// profile.
-    pub fn key(&mut self, place: Place, text: &'a str, fault: KeyFault) -> BenchFault
+    /// Notes a fault of a key, if that is wanted, and returns the fault `Key`.
+    pub fn key(&mut self, place: Location, text: &'a str, fault: KeyFault) -> BenchFault
         ensures { result ≡ WrongKey }
     {
         if self.is_whole && self.keys.len() < MOST_NOTED {
@@ -82,8 +80,8 @@ impl<'a> Notes<'a> {
         BenchFault::Key
     }
 
-    /// Notes a text that isn't of its key's form, if that is wanted. Source: profile.
-    pub fn look_at(&mut self, place: Place, text: &'a str, key: Key) {
+    /// Notes a text that isn't of its key's form, if that is wanted.
+    pub fn look_at(&mut self, place: Location, text: &'a str, key: Key) {
         let Some(form) = key.form() else {
             return;
         };

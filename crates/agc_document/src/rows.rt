@@ -1,5 +1,5 @@
-//! The table of keys of a bench: each with what its value is, and whether it must be there.
-use crate::key::{ANY, Form, Key, KeyName, Kind};
+//! The table of keys of a bench: each with the kind of its value, and whether it is required.
+use crate::key::{ANY, Key, KeyName, Kind, TextForm};
 
 pub const SETS: Key = Key::Optional(KeyName::Sets, Kind::Integer(7, 8));
 
@@ -9,13 +9,13 @@ pub const ALLOWANCE: Key = Key::Optional(KeyName::Allowance, Kind::Integer(0, 92
 
 pub const ATTENDS: Key = Key::Optional(KeyName::Attends, Kind::Integer(0, 1000));
 
-pub const KEY: Key = Key::Optional(KeyName::Key, Kind::OneOrMore(Form::Action, 1, 4));
+pub const KEY: Key = Key::Optional(KeyName::Key, Kind::OneOrMore(TextForm::Action, 1, 4));
 
-pub const RADAR: Key = Key::Optional(KeyName::Radar, Kind::OneOrMore(Form::Action, 1, 4));
+pub const RADAR: Key = Key::Optional(KeyName::Radar, Kind::OneOrMore(TextForm::Action, 1, 4));
 
-pub const POWER: Key = Key::Optional(KeyName::Power, Kind::Texts(Form::Word, 12, 12));
+pub const POWER: Key = Key::Optional(KeyName::Power, Kind::Texts(TextForm::Word, 12, 12));
 
-pub const SCRIPT: Key = Key::Optional(KeyName::Script, Kind::Texts(Form::Request, 0, ANY));
+pub const SCRIPT: Key = Key::Optional(KeyName::Script, Kind::Texts(TextForm::Request, 0, ANY));
 
 pub const TASKS: Key = Key::Optional(KeyName::Task, Kind::Tables(0, ANY));
 
@@ -28,7 +28,7 @@ pub const DEVICES: Key = Key::Optional(KeyName::Device, Kind::Tables(0, 32));
 /// The workers of a bench that is explored.
 pub const EXPLORED: Key = Key::Optional(KeyName::Worker, Kind::Explored(0, 32));
 
-/// Its devices.
+/// The devices of a bench that is explored.
 pub const EXPLORED_DEVICES: Key = Key::Optional(KeyName::Device, Kind::Explored(0, 32));
 
 /// The keys of a bench itself.
@@ -36,11 +36,11 @@ pub const BENCH_KEYS: [Key; 12] = [
     SETS, LIMIT, ALLOWANCE, ATTENDS, KEY, RADAR, POWER, SCRIPT, TASKS, PHASES, WORKERS, DEVICES,
 ];
 
-pub const AT: Key = Key::Required(KeyName::At, Kind::Text(Form::Address));
+pub const AT: Key = Key::Required(KeyName::At, Kind::Text(TextForm::Address));
 
-pub const BANK: Key = Key::Required(KeyName::Bank, Kind::Text(Form::Word));
+pub const BANK: Key = Key::Required(KeyName::Bank, Kind::Text(TextForm::Word));
 
-pub const ACTION: Key = Key::Required(KeyName::Action, Kind::OneOrMore(Form::Action, 1, 4));
+pub const ACTION: Key = Key::Required(KeyName::Action, Kind::OneOrMore(TextForm::Action, 1, 4));
 
 /// The keys of a task's row.
 pub const TASK_KEYS: [Key; 3] = [AT, BANK, ACTION];
@@ -49,14 +49,14 @@ pub const GROUP: Key = Key::Required(KeyName::Group, Kind::Integer(1, 6));
 
 pub const PHASE: Key = Key::Required(KeyName::Phase, Kind::Integer(1, 127));
 
-pub const JOB: Key = Key::Optional(KeyName::Job, Kind::Text(Form::Job));
+pub const JOB: Key = Key::Optional(KeyName::Job, Kind::Text(TextForm::Job));
 
-pub const LISTING: Key = Key::Optional(KeyName::Task, Kind::Text(Form::Listing));
+pub const LISTING: Key = Key::Optional(KeyName::Task, Kind::Text(TextForm::Listing));
 
 /// The keys of a phase entry.
 pub const PHASE_KEYS: [Key; 4] = [GROUP, PHASE, JOB, LISTING];
 
-pub const REQUESTS: Key = Key::Required(KeyName::Script, Kind::Texts(Form::Request, 0, ANY));
+pub const REQUESTS: Key = Key::Required(KeyName::Script, Kind::Texts(TextForm::Request, 0, ANY));
 
 /// The keys of a worker.
 pub const WORKER_KEYS: [Key; 1] = [REQUESTS];
@@ -66,7 +66,7 @@ pub const REPEAT: Key = Key::Optional(KeyName::Repeat, Kind::Flag);
 /// The keys of a worker of a bench that is explored.
 pub const EXPLORED_WORKER_KEYS: [Key; 2] = [REQUESTS, REPEAT];
 
-pub const LINE: Key = Key::Required(KeyName::Line, Kind::Text(Form::Device));
+pub const LINE: Key = Key::Required(KeyName::Line, Kind::Text(TextForm::Device));
 
 pub const PULSES: Key = Key::Required(KeyName::Pulses, Kind::Integer(0, 1_000_000));
 

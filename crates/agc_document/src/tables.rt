@@ -14,14 +14,14 @@ ghost use Rattle.agc_document.specs.declared.key.Key.{Key as AnyKey};
 ghost use Rattle.agc_document.specs.Rows.{name_of, kind_of, is_required};
 ghost use Rattle.agc_document.specs.Keys.{is_among, has_only, known_to, value_of, number_of};
 ghost use Rattle.agc_document.specs.Keys.{flag_of, text_of, texts_of, least, most, read_at};
-ghost use Rattle.agc_document.specs.Keys.{read_or, read_if, each, counted, items_of, one_in};
+ghost use Rattle.agc_document.specs.Keys.{read_or, read_if, each, in_bounds, items_of, one_in};
 ghost use Rattle.agc_document.specs.Keys.{table_with};
 
 use crate::fault::BenchFault;
 use crate::key::{Key, Kind};
 use crate::key_fault::{KeyFault, Level};
+use crate::location::Location;
 use crate::notes::Notes;
-use crate::place::Place;
 use crate::texts::{Text, TextList};
 use std::alloc::{AllocError, Global};
 use toml::de::Error;
@@ -29,39 +29,39 @@ use toml::{Table, Value};
 
 /// A table that is read, and its place in the document.
 #[derive(Clone, Copy)]
-pub struct Site<'a> {
+pub struct LocatedTable<'a> {
     pub alloc: Global,
     pub table: &'a Table,
-    pub place: Place,
+    pub place: Location,
 }
 
-/// A value, the key whose value or whose item it is, and its place in the document.
+/// A value, the key that has it or its array, and its place in the document.
 #[derive(Clone, Copy)]
-pub struct Placed<'a> {
+pub struct LocatedValue<'a> {
     pub alloc: Global,
     pub value: &'a Value,
     pub key: Key,
-    pub place: Place,
+    pub place: Location,
 }
 
-impl<'a> Site<'a> {
+impl<'a> LocatedTable<'a> {
     /// A document.
-    pub fn of_document(alloc: Global, table: &'a Table) -> Site<'a>
+    pub fn of_document(alloc: Global, table: &'a Table) -> LocatedTable<'a>
         ensures { result.table.now ≡ table.entry.now }
     {
-        Site {
+        LocatedTable {
             alloc,
             table,
-            place: Place::Whole,
+            place: Location::Whole,
         }
     }
 
     /// The value that the table has of a key.
-    pub fn with_value(self, value: &'a Value, key: Key) -> Placed<'a>
+    pub fn with_value(self, value: &'a Value, key: Key) -> LocatedValue<'a>
         ensures value { result.value.now ≡ value.entry.now }
         ensures key { result.key ≡ key }
     {
-        Placed {
+        LocatedValue {
             alloc: self.alloc,
             value,
             key,
@@ -70,14 +70,14 @@ impl<'a> Site<'a> {
     }
 }
 
-impl<'a> Placed<'a> {
-    /// An item of the array that the value is, from 0.
-    fn with_item(self, value: &'a Value, k: usize) -> Placed<'a>
+impl<'a> LocatedValue<'a> {
+    /// An item of the array, counted from 0.
+    fn with_item(self, value: &'a Value, k: usize) -> LocatedValue<'a>
         ensures value { result.value.now ≡ value.entry.now }
         ensures key { result.key ≡ self.entry.key }
     {
         let place = self.place.of_item((k as u64).saturating_add(1));
-        Placed {
+        LocatedValue {
             value,
             place,
             ..self
@@ -85,11 +85,11 @@ impl<'a> Placed<'a> {
     }
 }
 
-/// The table of the document that a text is, or why it is no document. Source: profile.
+/// The table of the document that a text is, or the parser's error.
 ///
 /// # Errors
 ///
-/// Where there is no memory.
+/// If memory runs out.
 pub fn table_of(alloc: Global, text: &str) -> Result<Result<Table, Error>, AllocError>
     ensures { IfOk result (λ read. MatchResult read
         (λ t. parse_document text.now ≡ Some (table_view t))
@@ -106,7 +106,6 @@ pub fn table_of(alloc: Global, text: &str) -> Result<Result<Table, Error>, Alloc
     }
 }
 
-/// Whether a key's name is that of one of these.
 fn is_among(keys: &[Key], name: &str) -> bool
     ensures { result ≡ is_among (map name_of keys.now) name.now }
 {
@@ -118,7 +117,7 @@ fn is_among(keys: &[Key], name: &str) -> bool
     false
 }
 
-/// Whether the name of every key of a table is among these.
+/// Whether the name of every key of a table is in a list.
 fn all_among(table: &Table, among: &[Key]) -> bool
     ensures { result ≡ list_all
         (λ k. is_among (map name_of among.now) (string_bytes k)) (keys table.now) }
@@ -134,8 +133,8 @@ fn is_known(table: &Table, among: &[Key]) -> bool
     all_among(table, among)
 }
 
-/// Notes each key of a table that is none of these.
-fn note_unknown<'a>(site: Site<'a>, among: &[Key], level: Level, notes: &mut Notes<'a>) {
+/// Notes each key of a table that isn't in the list.
+fn note_unknown<'a>(site: LocatedTable<'a>, among: &[Key], level: Level, notes: &mut Notes<'a>) {
     for name in site.table.keys() {
         if !is_among(among, name.as_str()) {
             notes.key(site.place, name.as_str(), KeyFault::Unknown(level));
@@ -145,7 +144,7 @@ fn note_unknown<'a>(site: Site<'a>, among: &[Key], level: Level, notes: &mut Not
 
 /// Whether a table has these keys, those of its level, and no others.
 pub fn has_only<'a>(
-    site: Site<'a>,
+    site: LocatedTable<'a>,
     among: &[Key],
     level: Level,
     notes: &mut Notes<'a>,
@@ -160,17 +159,17 @@ pub fn has_only<'a>(
     Err(BenchFault::Key)
 }
 
-/// Notes what is wrong with a value, and returns the fault `Key`.
-fn wrong_value<'a>(placed: Placed<'a>, notes: &mut Notes<'a>) -> BenchFault
+/// Notes that a value is wrong, and returns the fault `Key`.
+fn wrong_value<'a>(placed: LocatedValue<'a>, notes: &mut Notes<'a>) -> BenchFault
     ensures { result ≡ BenchFault.Key }
 {
     notes.key(placed.place, "", placed.place.fault(placed.key))
 }
 
-/// What a value was read as. Where that is nothing, it is noted: a fault `Key`.
+/// The value, if there is one. Otherwise notes a fault `Key`, and returns it.
 fn or_note<'a, T: Drop>(
     read: Option<T>,
-    placed: Placed<'a>,
+    placed: LocatedValue<'a>,
     notes: &mut Notes<'a>,
 ) -> Result<T, BenchFault>
     ensures { GivesOrKey (λ x. x) result read }
@@ -182,12 +181,15 @@ fn or_note<'a, T: Drop>(
 }
 
 /// The table that a value is, an item of a key's array.
-pub fn table_in<'a>(placed: Placed<'a>, notes: &mut Notes<'a>) -> Result<Site<'a>, BenchFault>
+pub fn table_in<'a>(
+    placed: LocatedValue<'a>,
+    notes: &mut Notes<'a>,
+) -> Result<LocatedTable<'a>, BenchFault>
     ensures value { GivesOrKey (λ s. table_view s.table.now) result
         (as_table (view placed.entry.value.now)) }
 {
     match placed.value.as_table() {
-        Some(table) => Ok(Site {
+        Some(table) => Ok(LocatedTable {
             alloc: placed.alloc,
             table,
             place: placed.place.of_table(),
@@ -210,36 +212,41 @@ pub fn value_of<'a>(table: &'a Table, key: Key) -> Option<&'a Value>
     member(table, key.name())
 }
 
-/// What the value of a key, or an item of its array, is read as.
+/// A type that is read from the value of a key, or from an item of its array.
 pub trait FromData<'a>: Sized + Drop {
-    /// What reading gives of a value of this key.
+    /// The result of reading a value of this key.
     ghost reads: { AnyKey → Data → Option Self };
 
-    /// What is read is in the range of its key.
+    /// The result is in the range of its key.
     ghost IsAllowed: { AnyKey → Self → Type 0 };
 
-    /// What a value is. A fault `Key` where it is no such thing.
-    fn from_value(placed: Placed<'a>, notes: &mut Notes<'a>) -> Result<Self, BenchFault>
+    /// Reads a value. A fault `Key` if it is of another kind, or out of range.
+    fn from_value(placed: LocatedValue<'a>, notes: &mut Notes<'a>) -> Result<Self, BenchFault>
         ensures value { GivesOrKey (λ x. x) result
             (reads placed.entry.key (view placed.entry.value.now)) }
         ensures range { IfOk result (IsAllowed placed.entry.key) };
 }
 
-/// What a table is read as, an item of a key's array: one that has these keys and no others.
+/// A type that is read from a table, an item of a key's array. The table may have no keys but
+/// these.
 pub trait FromTable<'a>: Sized + Drop {
     /// The keys that it may have, by the key of its array.
     ghost keys: { AnyKey → List AnyKey };
 
-    /// What reading gives of it.
+    /// The result of reading such a table.
     ghost fields: { AnyKey → Members → Option Self };
 
     /// Whether a table has these keys and no others.
-    fn known(site: Site<'a>, key: Key, notes: &mut Notes<'a>) -> Result<(), BenchFault>
+    fn check_keys(site: LocatedTable<'a>, key: Key, notes: &mut Notes<'a>) -> Result<(), BenchFault>
         ensures { GivesOrKey (λ _. table_view site.entry.table.now) result
             (known_to (keys key) (table_view site.entry.table.now)) };
 
-    /// What it is. A fault `Key` where it is no such thing.
-    fn from_table(site: Site<'a>, key: Key, notes: &mut Notes<'a>) -> Result<Self, BenchFault>
+    /// Reads a table. A fault `Key` if it isn't of this type.
+    fn from_table(
+        site: LocatedTable<'a>,
+        key: Key,
+        notes: &mut Notes<'a>,
+    ) -> Result<Self, BenchFault>
         ensures { GivesOrKey (λ x. x) result (fields key (table_view site.entry.table.now)) };
 }
 
@@ -248,10 +255,10 @@ impl<'a, T: FromTable<'a>> FromData<'a> for T {
 
     ghost IsAllowed = { λ k x. Unit {0} };
 
-    fn from_value(placed: Placed<'a>, notes: &mut Notes<'a>) -> Result<T, BenchFault> {
+    fn from_value(placed: LocatedValue<'a>, notes: &mut Notes<'a>) -> Result<T, BenchFault> {
         let site = table_in(placed, notes)?;
-        let known = T::known(site, placed.key, notes);
-        known.and(T::from_table(site, placed.key, notes))
+        let check_keys = T::check_keys(site, placed.key, notes);
+        check_keys.and(T::from_table(site, placed.key, notes))
     }
 }
 
@@ -279,7 +286,7 @@ impl<'a> FromData<'a> for u64 {
 
     ghost IsAllowed = { λ k n. IsBetween (least k) (most k) n };
 
-    fn from_value(placed: Placed<'a>, notes: &mut Notes<'a>) -> Result<u64, BenchFault> {
+    fn from_value(placed: LocatedValue<'a>, notes: &mut Notes<'a>) -> Result<u64, BenchFault> {
         or_note(number_in(placed.value, placed.key), placed, notes)
     }
 }
@@ -289,7 +296,7 @@ impl<'a> FromData<'a> for bool {
 
     ghost IsAllowed = { λ k b. Unit {0} };
 
-    fn from_value(placed: Placed<'a>, notes: &mut Notes<'a>) -> Result<bool, BenchFault> {
+    fn from_value(placed: LocatedValue<'a>, notes: &mut Notes<'a>) -> Result<bool, BenchFault> {
         or_note(placed.value.as_bool(), placed, notes)
     }
 }
@@ -299,7 +306,7 @@ impl<'a> FromData<'a> for Text<'a> {
 
     ghost IsAllowed = { λ k t. Unit {0} };
 
-    fn from_value(placed: Placed<'a>, notes: &mut Notes<'a>) -> Result<Text<'a>, BenchFault> {
+    fn from_value(placed: LocatedValue<'a>, notes: &mut Notes<'a>) -> Result<Text<'a>, BenchFault> {
         match placed.value.as_str() {
             Some(text) => {
                 notes.look_at(placed.place, text, placed.key);
@@ -310,7 +317,7 @@ impl<'a> FromData<'a> for Text<'a> {
     }
 }
 
-/// The text that a value is, where its key may have one text alone.
+/// The single text that a value is, if its key may have one.
 fn one_in<'a>(value: &'a Value, key: Key) -> Option<&'a str>
     ensures { option_map (λ s. s.now) result ≡ one_in (kind_of key) (view value.now) }
 {
@@ -320,20 +327,20 @@ fn one_in<'a>(value: &'a Value, key: Key) -> Option<&'a str>
     }
 }
 
-/// This text alone, if its key may have one text.
-fn alone<'a>(
+/// A list of this text, if its key may have a single text.
+fn single_text<'a>(
     text: &'a str,
-    placed: Placed<'a>,
+    placed: LocatedValue<'a>,
     notes: &mut Notes<'a>,
 ) -> Result<Vec<Text<'a>>, BenchFault>
     ensures value { GivesOrKey (λ v. v.items) result
-        (counted placed.entry.key (text.entry.now ∷ [])) }
+        (in_bounds placed.entry.key (text.entry.now ∷ [])) }
     ensures few { IfOk result (λ v.
         IsBetween (least placed.entry.key) (most placed.entry.key) (length v.items)) }
 {
     notes.look_at(placed.place, text, placed.key);
-    let alone = TextList::of(placed.alloc, text)?;
-    counted(alone.texts, placed, notes)
+    let single_text = TextList::of(placed.alloc, text)?;
+    in_bounds(single_text.texts, placed, notes)
 }
 
 impl<'a> FromData<'a> for TextList<'a> {
@@ -341,28 +348,34 @@ impl<'a> FromData<'a> for TextList<'a> {
 
     ghost IsAllowed = { λ k ts. IsBetween (least k) (most k) (length ts) };
 
-    fn from_value(placed: Placed<'a>, notes: &mut Notes<'a>) -> Result<TextList<'a>, BenchFault> {
+    fn from_value(
+        placed: LocatedValue<'a>,
+        notes: &mut Notes<'a>,
+    ) -> Result<TextList<'a>, BenchFault> {
         let texts = match one_in(placed.value, placed.key) {
-            Some(text) => alone(text, placed, notes)?,
+            Some(text) => single_text(text, placed, notes)?,
             None => items_of(placed, notes)?,
         };
         Ok(TextList { texts })
     }
 }
 
-/// Looks at an item of an array, if it is wanted, and notes what is wrong with it.
-fn note_item<'a, T: FromData<'a>>(placed: Placed<'a>, is_wanted: bool, notes: &mut Notes<'a>) {
+/// Reads an item of an array, if it is wanted, to note its faults.
+fn note_item<'a, T: FromData<'a>>(
+    placed: LocatedValue<'a>,
+    is_wanted: bool,
+    notes: &mut Notes<'a>,
+) {
     if is_wanted {
         let _item: Result<T, BenchFault> = T::from_value(placed, notes);
     }
 }
 
-/// Looks at the items of an array after the first that is no such thing, and notes what is wrong
-/// with them.
+/// Reads the items of an array after the first that is wrong, to note their faults.
 fn note_others<'a, T: FromData<'a>>(
     values: &'a [Value],
     first: usize,
-    array: Placed<'a>,
+    array: LocatedValue<'a>,
     notes: &mut Notes<'a>,
 ) {
     for (k, value) in values.iter().enumerate() {
@@ -372,7 +385,7 @@ fn note_others<'a, T: FromData<'a>>(
 
 fn items_in_order<'a, T: FromData<'a>>(
     values: &'a [Value],
-    array: Placed<'a>,
+    array: LocatedValue<'a>,
     notes: &mut Notes<'a>,
 ) -> Result<Vec<T>, BenchFault>
     ensures value { GivesOrKey (λ v. v.items) result
@@ -391,13 +404,13 @@ fn items_in_order<'a, T: FromData<'a>>(
     Ok(items)
 }
 
-/// These items, if the row of their key allows so many.
-fn counted<'a, T: Drop>(
+/// The items, if the row of their key allows this many.
+fn in_bounds<'a, T: Drop>(
     items: Vec<T>,
-    placed: Placed<'a>,
+    placed: LocatedValue<'a>,
     notes: &mut Notes<'a>,
 ) -> Result<Vec<T>, BenchFault>
-    ensures value { GivesOrKey (λ v. v.items) result (counted placed.entry.key items.items) }
+    ensures value { GivesOrKey (λ v. v.items) result (in_bounds placed.entry.key items.items) }
     ensures few { IfOk result (λ v.
         IsBetween (least placed.entry.key) (most placed.entry.key) (length v.items)) }
 {
@@ -411,7 +424,7 @@ fn counted<'a, T: Drop>(
 
 /// The items of an array, as many as the row of its key allows.
 pub fn items_of<'a, T: FromData<'a>>(
-    placed: Placed<'a>,
+    placed: LocatedValue<'a>,
     notes: &mut Notes<'a>,
 ) -> Result<Vec<T>, BenchFault>
     ensures value { GivesOrKey (λ v. v.items) result
@@ -423,14 +436,14 @@ pub fn items_of<'a, T: FromData<'a>>(
         None => Err(wrong_value(placed, notes)),
         Some(values) => {
             let items = items_in_order(values.as_slice(), placed, notes)?;
-            counted(items, placed, notes)
+            in_bounds(items, placed, notes)
         }
     }
 }
 
-/// The items of the array of a key, none where the key is missing.
+/// The items of the array of a key, none if the key is missing.
 pub fn items_or_none<'a, T: FromData<'a>>(
-    site: Site<'a>,
+    site: LocatedTable<'a>,
     key: Key,
     notes: &mut Notes<'a>,
 ) -> Result<Vec<T>, BenchFault>
@@ -445,9 +458,9 @@ pub fn items_or_none<'a, T: FromData<'a>>(
     }
 }
 
-/// What a required key is read as.
+/// Reads a required key.
 pub fn read_at<'a, T: FromData<'a>>(
-    site: Site<'a>,
+    site: LocatedTable<'a>,
     key: Key,
     notes: &mut Notes<'a>,
 ) -> Result<T, BenchFault>
@@ -462,9 +475,9 @@ pub fn read_at<'a, T: FromData<'a>>(
     }
 }
 
-/// What a key is read as, if it is there.
+/// Reads a key, if it is there.
 pub fn read_if<'a, T: FromData<'a>>(
-    site: Site<'a>,
+    site: LocatedTable<'a>,
     key: Key,
     notes: &mut Notes<'a>,
 ) -> Result<Option<T>, BenchFault>
@@ -481,9 +494,9 @@ pub fn read_if<'a, T: FromData<'a>>(
     }
 }
 
-/// What a key is read as, or this where it is missing.
+/// Reads a key, with a default in case it is missing.
 pub fn read_or<'a, T: FromData<'a>>(
-    site: Site<'a>,
+    site: LocatedTable<'a>,
     key: Key,
     missing: T,
     notes: &mut Notes<'a>,

@@ -5,7 +5,7 @@ use agc_word::Sets;
 use std::alloc::{AllocError, Global};
 use std::marker::Model;
 
-/// A text of a list. Contracts see its bytes, where they would see a `&str` as a reference.
+/// A text of a list. Contracts see its bytes; of a `&str` they would see a reference.
 #[derive(Drop)]
 pub struct Text<'a> {
     text: &'a str,
@@ -33,7 +33,7 @@ impl<'a> Text<'a> {
     }
 }
 
-/// The texts of a key, one alone or an array of them. Contracts see each one's bytes.
+/// The texts of a key, whether one or an array. Contracts see the bytes of each.
 #[derive(Drop)]
 pub struct TextList<'a> {
     pub(crate) texts: Vec<Text<'a>>,
@@ -48,7 +48,7 @@ impl<'a> Model for TextList<'a> {
 }
 
 impl<'a> TextList<'a> {
-    /// No texts. Source: profile.
+    /// No texts.
     pub fn none(alloc: Global) -> TextList<'a>
         ensures { result ≡ [] }
     {
@@ -57,11 +57,11 @@ impl<'a> TextList<'a> {
         }
     }
 
-    /// This text alone. Source: profile.
+    /// A list of this text.
     ///
     /// # Errors
     ///
-    /// Where there is no memory.
+    /// If memory runs out.
     pub fn of(alloc: Global, text: &'a str) -> Result<TextList<'a>, AllocError>
         ensures { IfOk result (λ t. t ≡ text.now ∷ []) }
     {
@@ -70,7 +70,7 @@ impl<'a> TextList<'a> {
         Ok(TextList { texts })
     }
 
-    /// The texts, in order. Source: profile.
+    /// The texts, in order.
     pub fn as_slice(&self) -> &[Text<'a>]
         ensures { result.now ≡ self.now }
     {
@@ -115,7 +115,7 @@ impl<'a> Model for EntryTexts<'a> {
     ghost view = { λ t. record { group = t.group; phase = t.phase; job = t.job; task = t.task } };
 }
 
-/// A worker: the texts of its script.
+/// A worker: the texts of its requests.
 #[derive(Drop)]
 pub struct WorkerTexts<'a> {
     pub script: TextList<'a>,
@@ -147,7 +147,7 @@ impl<'a> Model for DeviceTexts<'a> {
     ghost invariant = { λ t. t.pulses ≤ 1000000 };
 }
 
-/// What a bench has once, of both pulses a text for each action.
+/// The single values of a bench. Each of the two pulses has a text per action.
 #[derive(Drop)]
 pub struct Settings<'a> {
     pub sets: Sets,
@@ -182,7 +182,7 @@ impl<'a> Model for Settings<'a> {
         × IsBetween 1 4 (length t.key) × IsBetween 1 4 (length t.radar) };
 }
 
-/// What a bench has many of.
+/// The lists of a bench.
 #[derive(Drop)]
 pub struct Lists<'a> {
     pub script: TextList<'a>,
@@ -209,7 +209,7 @@ impl<'a> Model for Lists<'a> {
     ghost invariant = { λ t. (length t.workers.items ≤ 32) × (length t.devices.items ≤ 32) };
 }
 
-/// All of a bench.
+/// All numbers and texts of a bench.
 #[derive(Drop)]
 pub struct Texts<'a> {
     pub settings: Settings<'a>,

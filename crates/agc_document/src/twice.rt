@@ -1,12 +1,12 @@
-//! Where rows and entries make no plan.
+//! The places for which rows and entries make no plan.
 use crate::key::Key;
-use crate::place::Place;
+use crate::location::Location;
 use crate::rows::{PHASES, TASKS};
 use agc_plan::{Actions, PhaseEntry, PlanFault, Task};
 use std::alloc::{AllocError, Global};
 
-/// The first table that has in common with an earlier one what two of them may not: two numbers,
-/// behind which the table's own stands.
+/// The first table with the same two numbers as an earlier one. The third number of each is the
+/// table's own.
 fn first_twin(tables: &mut Vec<(u16, u16, u64)>) -> Result<Option<u64>, AllocError> {
     tables.sort()?;
     let mut found: Option<u64> = None;
@@ -21,11 +21,11 @@ fn first_twin(tables: &mut Vec<(u16, u16, u64)>) -> Result<Option<u64>, AllocErr
     Ok(found)
 }
 
-/// The first table of a key's array that an earlier one is.
-fn place_of(key: Key, tables: &mut Vec<(u16, u16, u64)>) -> Result<Place, AllocError> {
+/// The place of the first table of a key's array that repeats an earlier one.
+fn place_of(key: Key, tables: &mut Vec<(u16, u16, u64)>) -> Result<Location, AllocError> {
     match first_twin(tables)? {
-        Some(number) => Ok(Place::Table(key, number)),
-        None => Ok(Place::Value(key)),
+        Some(number) => Ok(Location::Table(key, number)),
+        None => Ok(Location::Value(key)),
     }
 }
 
@@ -35,7 +35,7 @@ pub(crate) fn refused_at(
     fault: PlanFault,
     rows: &[(Task, Actions)],
     entries: &[PhaseEntry],
-) -> Result<Place, AllocError> {
+) -> Result<Location, AllocError> {
     let mut tables: Vec<(u16, u16, u64)> = Vec::new(alloc);
     match fault {
         PlanFault::TaskTwice => {
@@ -52,6 +52,6 @@ pub(crate) fn refused_at(
             }
             place_of(PHASES, &mut tables)
         }
-        _ => Ok(Place::Value(PHASES)),
+        _ => Ok(Location::Value(PHASES)),
     }
 }

@@ -1,4 +1,4 @@
-//! What the texts of a bench spell.
+//! The values that the texts of a bench spell.
 ghost use Rattle.std.specs.Prelude.{◌≡◌, ◌≢◌, ◌<◌, ◌≤◌, ℕ, List, length, map, Option, Some, None};
 ghost use Rattle.std.specs.Prelude.{IfSome, IfNone, IfOk, IfErr};
 ghost use Rattle.std.specs.Option.{option_map};
@@ -26,27 +26,27 @@ use agc_text::{parse_action, parse_address, parse_line, parse_word};
 use agc_word::Word;
 use std::alloc::Global;
 
-/// What texts may spell. Source: profile.
-pub trait Spelled<T>: Sized + Drop {
-    /// The texts that spell it.
+/// A type whose values are spelled by texts.
+pub trait FromText<T>: Sized + Drop {
+    /// The texts that spell the value.
     ghost spelling: { Self → T };
 
-    /// Its numbers are in their ranges.
+    /// The value's numbers are in their ranges.
     ghost IsLawful: { Self → Type 0 };
 
-    /// What these texts spell. A fault `Line` where they spell no such thing.
+    /// Reads the texts. A fault `Line` if they don't spell such a value.
     fn spelled_by(alloc: Global, texts: &T) -> Result<Self, BenchFault>
         ensures found { IfOk result (λ x. IsLawful x × (texts.now ≡ spelling x)) }
         ensures refused { IfErr result (RefusedLine
             ((x : Self) → IsLawful x → texts.now ≢ spelling x)) };
 }
 
-/// What each of these spells, in order. Source: profile.
+/// The values that these texts spell, in order.
 ///
 /// # Errors
 ///
-/// `Line`, where one spells no such thing; or `NoMemory`.
-pub fn all_spelled<T, X: Spelled<T>>(alloc: Global, texts: &[T]) -> Result<Vec<X>, BenchFault>
+/// `Line` if one spells no such thing; or `NoMemory`.
+pub fn all_spelled<T, X: FromText<T>>(alloc: Global, texts: &[T]) -> Result<Vec<X>, BenchFault>
     ensures found { IfOk result (λ v. AllByRecursion X.IsLawful v.items
         × (texts.now ≡ map X.spelling v.items)) }
     ensures refused { IfErr result (RefusedLine
@@ -60,7 +60,7 @@ pub fn all_spelled<T, X: Spelled<T>>(alloc: Global, texts: &[T]) -> Result<Vec<X
     Ok(all)
 }
 
-impl<'a> Spelled<Text<'a>> for Request {
+impl<'a> FromText<Text<'a>> for Request {
     ghost spelling = { line_of };
 
     ghost IsLawful = { IsRequest };
@@ -99,7 +99,7 @@ fn row_of(texts: &RowTexts<'_>) -> Option<(Task, Actions)>
     Some((Task { at, bank }, actions))
 }
 
-impl<'a> Spelled<RowTexts<'a>> for (Task, Actions) {
+impl<'a> FromText<RowTexts<'a>> for (Task, Actions) {
     ghost spelling = { row_texts };
 
     ghost IsLawful = { IsRow };
@@ -109,7 +109,7 @@ impl<'a> Spelled<RowTexts<'a>> for (Task, Actions) {
     }
 }
 
-/// The job that a request establishes. None where it establishes none.
+/// The job that a request establishes. None if it establishes none.
 pub(crate) fn job_of(request: &Request) -> Option<JobStart>
     ensures { result ≡ job_of request.now }
 {
@@ -120,7 +120,7 @@ pub(crate) fn job_of(request: &Request) -> Option<JobStart>
     }
 }
 
-/// The task that a request lists, and its delay. None where it lists none.
+/// The task that a request lists, and its delay. None if it lists none.
 pub(crate) fn timed_of(request: &Request) -> Option<(Delay, Task)>
     ensures { result ≡ timed_of request.now }
 {
@@ -141,7 +141,7 @@ pub(crate) fn leaving_of(request: &Request) -> Option<Request>
     }
 }
 
-/// Whether a job may ask for a request before it leaves.
+/// Whether a job may make a request before it leaves.
 pub(crate) fn is_step(request: &Request) -> bool {
     match *request {
         Request::Novac(_, _) | Request::Findvac(_, _) | Request::Prio(_) => true,
@@ -150,8 +150,7 @@ pub(crate) fn is_step(request: &Request) -> bool {
     }
 }
 
-/// Whether a text is a line that can be shown: none of its bytes is that of a control character.
-/// Source: profile.
+/// Whether a text is a line that can be shown: it has no control characters.
 pub fn is_name(text: &str) -> bool
     ensures { result ≡ is_name text.now }
 {
@@ -160,7 +159,7 @@ pub fn is_name(text: &str) -> bool
         .all(|byte| 32 <= *byte && *byte != 127)
 }
 
-/// The job of a phase entry, if its text is there. None where that text spells none.
+/// The job of a phase entry, if its text is there. None if that text spells none.
 fn parse_job(text: &Option<Text<'_>>) -> Option<Option<JobStart>>
     ensures found { IfSome result (λ j. IfSome j (λ x. IsRequest (job_request x))
         × (text.now ≡ option_map (λ x. line_of (job_request x)) j)) }
@@ -178,7 +177,7 @@ fn parse_job(text: &Option<Text<'_>>) -> Option<Option<JobStart>>
     }
 }
 
-/// The task of a phase entry, if its text is there. None where that text spells none.
+/// The task of a phase entry, if its text is there. None if that text spells none.
 fn parse_timed(text: &Option<Text<'_>>) -> Option<Option<(Delay, Task)>>
     ensures found { IfSome result (λ t. IfSome t (λ x. IsRequest (timed_request x))
         × (text.now ≡ option_map (λ x. line_of (timed_request x)) t)) }
@@ -213,7 +212,7 @@ fn entry_of(texts: &EntryTexts<'_>) -> Option<PhaseEntry>
     }
 }
 
-impl<'a> Spelled<EntryTexts<'a>> for PhaseEntry {
+impl<'a> FromText<EntryTexts<'a>> for PhaseEntry {
     ghost spelling = { entry_texts };
 
     ghost IsLawful = { IsEntry };
@@ -265,7 +264,7 @@ fn device_of(texts: &DeviceTexts<'_>) -> Option<(Line, u32)>
     Some((line, texts.pulses))
 }
 
-impl<'a> Spelled<DeviceTexts<'a>> for (Line, u32) {
+impl<'a> FromText<DeviceTexts<'a>> for (Line, u32) {
     ghost spelling = { device_texts };
 
     ghost IsLawful = { IsDevice };
@@ -293,7 +292,7 @@ fn words_of(texts: &[Text<'_>]) -> Option<[Word; 12]>
     Some(words)
 }
 
-/// The phase words of a power-up, if their texts are there. None where one of these spells no word.
+/// The phase words of a power-up, if their texts are there. None if one of these spells no word.
 pub(crate) fn power_of(texts: &Option<TextList<'_>>) -> Option<Option<[Word; 12]>>
     ensures found { IfSome result (λ p. IfSome p IsPower
         × (texts.now ≡ option_map (map (octal 5)) p)) }

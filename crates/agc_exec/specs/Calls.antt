@@ -1,4 +1,4 @@
--- What each call does to the words.
+-- The effect of each call on the words.
 use Rattle.std.specs.Prelude.{◌≡◌, ℕ, ◌+◌, ◌*◌, ◌%◌, List, [], ◌∷◌, Option, Some, None, slice_index}
 use Rattle.std.specs.Prelude.{slice_index_or, slice_set, swap, replicate, map}
 use Rattle.agc_word.specs.Layout.{OutsideCores, Keeps, sets_in}
@@ -56,7 +56,7 @@ blocks_new (Some number) priority entry area running entries blocks =
     fronted_blocks running (with_new number entries)
     (slice_set blocks (place_of 0 entries) (new_block number priority entry area))
 
--- the same with the least unowned area, if there is one
+-- after a new job with the least unowned area, if there is one
 abbrev pub blocks_found : Option ℕ → Option ℕ → ℕ → Entry → Option ℕ → List ℕ → List (List ℕ)
     → List (List ℕ)
 blocks_found None number priority entry running entries blocks = blocks
@@ -88,12 +88,13 @@ blocks_roused (Some number) running entries blocks =
     fronted_blocks running entries (slice_set blocks (place_of number entries)
     (woken_block (slice_index_or blocks (place_of number entries) [])))
 
--- what a call does: from the old words to the new, with this reply
+-- the effect of a call: from the old words to the new, with this reply
 pub record Does (outcome : Outcome) (entries : List ℕ) (blocks : List (List ℕ)) (old new : List ℕ)
     (reply : Reply) : Type 0 where
   -- the new words are lawful
   pub lawful : IsLawfulWords new
-  -- they stand for the jobs of the outcome, with its running job, and the reply is its reply
+  -- the new words stand for the jobs of the outcome, with its running job, and the reply is its
+  -- reply
   pub outcome_is : ◌≡◌ {A = Outcome} (record { jobs = jobs_in new; reply = reply }) outcome
   -- each job stands in this set
   pub placed : entries_in new ≡ entries

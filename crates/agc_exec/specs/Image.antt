@@ -40,11 +40,11 @@ held_by block priority =
     else if nat_lt priority 0o40000 then Some (record_of block priority false)
     else Some (record_of block (complement priority) true)
 
--- what the twelve words of a set hold
+-- the contents of a set's twelve words
 unfoldable pub held_of : List ℕ → Option HeldJob
 held_of block = held_by block (slice_index block 11)
 
--- what the sets hold
+-- the contents of all sets
 unfoldable pub sets_of : List ℕ → List (Option HeldJob)
 sets_of words = map held_of (blocks_of words)
 
@@ -57,7 +57,7 @@ abbrev pub priority_word : ℕ → ℕ → Bool → ℕ
 priority_word priority area asleep =
     if asleep then complement (urgency_word priority area) else urgency_word priority area
 
--- these twelve words are those of this job
+-- twelve words are those of a job
 pub record IsCoded (block : List ℕ) (r : HeldJob) : Type 0 where
   pub twelve : length block ≡ 12
   pub word : slice_index block 11 ≡ priority_word r.priority r.area r.asleep

@@ -15,7 +15,7 @@ seen r = record {
   area = r.area;
 }
 
--- what each core set holds
+-- the job in each core set
 unfoldable pub seats_in : List ℕ → List (Option Seat)
 seats_in words = map (option_map seen) (sets_of words)
 

@@ -65,7 +65,7 @@ IsFronted sets =
     (i : ℕ) (r : HeldJob) → Holds sets i r → r.asleep ≡ false
     → (s : HeldJob) × Holds sets 0 s × (s.asleep ≡ false)
 
--- what holds of the sets between two requests
+-- the rule of the sets between two requests
 pub record IsStanding (sets : List (Option HeldJob)) : Type 0 where
   pub lawful : IsLawful sets
   pub in_front : IsFronted sets

@@ -58,7 +58,7 @@ pub fn prio_change(e: &mut Erasable, priority: Priority) -> Reply
 }
 
 /// Sets a work word of the running job, MPAC+1 to MPAC+6. Returns `Stored`. If no job is running,
-/// returns `NoJob` and changes nothing. Source: profile.
+/// returns `NoJob` and changes nothing.
 pub fn store(e: &mut Erasable, place: Place, word: Word) -> Reply
     requires { IsLawfulWords e.old }
     ensures { DoesStore place word e.old e.new result }

@@ -52,7 +52,7 @@ fn establish(e: &mut Erasable, priority: Priority, entry: Entry, area: u16) -> O
     }
 }
 
-/// What is replied: the new job's number, or that there was no room.
+/// The reply: the new job's number, or that there was no room.
 fn reply_of(number: Option<JobNo>) -> Reply
     ensures { result ≡ replied number }
 {

@@ -182,7 +182,7 @@ fn uses_agree(e: &Erasable, areas: &[bool; 9]) -> bool
 /// jobs share a number or an area; if any job is awake, the job in set 0 is; a use word is its
 /// area's address if no job owns the area, and 00000 otherwise; NEWJOB is 77777 if no job is awake,
 /// 12 times the best job's set if that job is strictly more urgent than the one in set 0, and 00000
-/// otherwise. Test an image from outside with this before any other call. Source: profile.
+/// otherwise. Test an image from outside with this before any other call.
 pub fn is_lawful(e: &Erasable) -> bool
     ensures { IsTrue result ↔ IsLawfulWords e.now }
 {

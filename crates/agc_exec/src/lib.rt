@@ -17,6 +17,7 @@ mod wake;
 
 pub use change::{change_job, prio_change, running, store};
 pub use clearing::clear;
+pub use core_set::{LOC, MINUS_ZERO, PRIORITY, PRIORITY_UNIT, SIGN};
 pub use establish::{findvac, novac};
 pub use lawful::is_lawful;
 pub use leave::{end_of_job, job_sleep};

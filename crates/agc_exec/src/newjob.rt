@@ -14,7 +14,7 @@ use crate::search::{RANK_UNIT, best_rank, set_of_rank, somebody_runs};
 use agc_word::layout::{NEWJOB, SET_SIZE};
 use agc_word::{Erasable, Word};
 
-/// What NEWJOB is to be.
+/// The word that NEWJOB must be.
 pub fn newjob(e: &Erasable) -> u16
     requires { IsSet e.now }
     ensures value { result ≡ newjob_of (sets_of e.now) }
@@ -42,8 +42,8 @@ pub fn bring_newjob_up_to_date(e: &mut Erasable)
     e.set(NEWJOB, Word::of_bits(newjob));
 }
 
-/// What NEWJOB is to be after the job in set k became awake: its set's name, where it is to run
-/// before the job that NEWJOB names.
+/// The word that NEWJOB must be after the job in set k became awake: the name of that set, if its
+/// job is to run before the job that NEWJOB names.
 fn newjob_with(e: &Erasable, k: usize) -> u16
     requires set { IsSet e.now }
     requires place { k < sets_in e.now }
@@ -71,7 +71,7 @@ fn newjob_with(e: &Erasable, k: usize) -> u16
     (SET_SIZE * k) as u16
 }
 
-/// What NEWJOB is to be after the job in set k became awake, and took set 0 if nobody ran.
+/// The word that NEWJOB must be after the job in set k became awake, and took set 0 if no job ran.
 fn newjob_after(e: &Erasable, k: usize, ran: bool) -> u16
     requires set { IsSet e.now }
     requires place { k < sets_in e.now }
@@ -98,7 +98,7 @@ pub fn note_newcomer(e: &mut Erasable, k: usize, ran: bool)
     e.set(NEWJOB, Word::of_bits(newjob));
 }
 
-/// What NEWJOB is to be where the best job runs, or nobody is awake.
+/// The word that NEWJOB must be while the best job runs, or no job is awake.
 fn newjob_of_best(e: &Erasable) -> u16
     requires set { IsSet e.now }
     requires first { running_in (sets_of e.now) ≡ best (slots_of (sets_of e.now)) }

@@ -23,13 +23,13 @@ code_of fault.TimeRange = 15
 code_of fault.StealTwice = 16
 code_of fault.CostTwice = 17
 
--- the code of a fault, 0 where there is none
+-- the code of a fault, 0 if there is none
 abbrev pub code_for : Option Fault → ℕ
 code_for None = 0
 code_for (Some fault) = code_of fault
 
--- each code comes exactly where what it names is the first that a call lacks: an image, numbers in
--- range, words, the time for it. 0 comes exactly where it lacks nothing
+-- each code comes exactly if what it names is the first that a call lacks: an image, numbers in
+-- range, words, the time for it. 0 comes exactly if it lacks nothing
 pub record Coded (code sets : ℕ) (array : List ℕ) (in_range are_words is_time : Type 0)
     : Type 0 where
   pub served : (code ≡ 0) ↔ (IsImage sets array × in_range × are_words × is_time)

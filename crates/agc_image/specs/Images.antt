@@ -9,7 +9,7 @@ use Rattle.agc_phase.specs.Image as phases
 abbrev pub IsSets : ℕ → Type 0
 IsSets sets = (sets ≡ 7) ⊎ (sets ≡ 8)
 
--- how many words there are with so many core sets: 132, or 144
+-- how many words there are with this many core sets: 132, or 144
 abbrev pub size_with : ℕ → ℕ
 size_with sets = others_size + set_size * sets
 
@@ -17,7 +17,7 @@ size_with sets = others_size + set_size * sets
 abbrev pub image_of : ℕ → List ℕ → List ℕ
 image_of sets array = take (size_with sets) array
 
--- the numbers behind them
+-- the numbers after them
 abbrev pub behind : ℕ → List ℕ → List ℕ
 behind sets array = drop (size_with sets) array
 
@@ -31,7 +31,7 @@ pub record IsLawful (words : List ℕ) : Type 0 where
   pub waits : table.IsLawfulTable words
   pub phases : phases.IsLawfulTable words
 
--- the array has an image of so many core sets
+-- the array has an image of this many core sets
 pub record IsImage (sets : ℕ) (array : List ℕ) : Type 0 where
   pub count : IsSets sets
   pub words : AreWords (image_of sets array)
@@ -43,7 +43,7 @@ pub record IsOpened (sets : ℕ) (array words : List ℕ) : Type 0 where
   pub size : length words ≡ size_with sets
   pub lawful : IsLawful words
 
--- these words were written into the first places of an array, and the numbers behind them stay
+-- these words were written into the first places of an array, and the numbers after them stay
 pub record IsWritten (words old new : List ℕ) : Type 0 where
   pub sized : IsSized words
   pub range : AreWords words
@@ -51,7 +51,7 @@ pub record IsWritten (words old new : List ℕ) : Type 0 where
   pub rest : behind (sets_in words) new ≡ behind (sets_in words) old
 
 -- the words of an array became others, by what a call does, and are an image again; the numbers
--- behind them are as before
+-- after them are as before
 pub record Changed (does : List ℕ → List ℕ → Type 0) (sets : ℕ) (old new : List ℕ) : Type 0 where
   pub did : does (image_of sets old) (image_of sets new)
   pub image : IsImage sets new

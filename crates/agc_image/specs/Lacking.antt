@@ -1,26 +1,26 @@
--- What a caller's plan lacks.
+-- The faults of a caller's plan.
 use Rattle.std.specs.Prelude.{◌==◌, nat_lt, ◌&&◌, ◌||◌, not, Bool, true, false, if◌then◌else◌}
 use Rattle.std.specs.Prelude.{List, [], ◌∷◌, Option, Some, None}
 use Rattle.std.specs.Option.{is_some}
 use Rattle.agc_plan.specs.Plans.{task_twice, phase_twice, all_want}
-use Rattle.agc_image.specs.declared.asked.AgcRequest.{AgcRequest}
+use Rattle.agc_image.specs.declared.requests.AgcRequest.{AgcRequest}
 use Rattle.agc_image.specs.declared.fault.Fault.{Fault}
 use Rattle.agc_image.specs.declared.fault.Fault.TheVariants.{PlanRange, TaskTwice, PhaseTwice}
 use Rattle.agc_image.specs.declared.fault.Fault.TheVariants.{TooManyAreas}
-use Rattle.agc_image.specs.declared.lent.AgcPhaseEntry.{AgcPhaseEntry}
-use Rattle.agc_image.specs.declared.lent.AgcRow.{AgcRow}
-use Rattle.agc_image.specs.Told.{address_told, six_told, phase_told, start_told, task_told}
-use Rattle.agc_image.specs.Told.{listing_told}
-use Rattle.agc_image.specs.Written.{rows_told, entries_told, job_told, listed_told}
+use Rattle.agc_image.specs.declared.borrowed_plan.AgcPhaseEntry.{AgcPhaseEntry}
+use Rattle.agc_image.specs.declared.borrowed_plan.AgcRow.{AgcRow}
+use Rattle.agc_image.specs.FromC.{address_from_c, six_from_c, phase_from_c, start_from_c, task_told}
+use Rattle.agc_image.specs.FromC.{listing_from_c}
+use Rattle.agc_image.specs.Written.{rows_from_c, entries_from_c, job_told, listed_from_c}
 
 -- nothing, a NOVAC, a FINDVAC, a rouse or a listing, with numbers in range
 abbrev pub is_action : AgcRequest → Bool
 is_action a =
     if a.kind == 0 then true
-    else if a.kind == 1 then is_some (start_told a.first a.second a.third)
-    else if a.kind == 2 then is_some (start_told a.first a.second a.third)
-    else if a.kind == 5 then is_some (address_told a.first)
-    else if a.kind == 9 then is_some (listing_told a.first a.second a.third)
+    else if a.kind == 1 then is_some (start_from_c a.first a.second a.third)
+    else if a.kind == 2 then is_some (start_from_c a.first a.second a.third)
+    else if a.kind == 5 then is_some (address_from_c a.first)
+    else if a.kind == 9 then is_some (listing_from_c a.first a.second a.third)
     else false
 
 -- the row of a task, with four actions
@@ -35,13 +35,13 @@ abbrev pub is_job : AgcPhaseEntry → Bool
 is_job e = (e.job == 0) || is_some (job_told e)
 
 abbrev pub is_listed : AgcPhaseEntry → Bool
-is_listed e = (e.delay == 0) || is_some (listed_told e)
+is_listed e = (e.delay == 0) || is_some (listed_from_c e)
 
 -- the entry of a group's phase other than 0
 abbrev pub is_entry : AgcPhaseEntry → Bool
 is_entry e =
-    is_some (six_told e.group)
-    && (is_some (phase_told e.phase) && (nat_lt 0 e.phase && (is_job e && is_listed e)))
+    is_some (six_from_c e.group)
+    && (is_some (phase_from_c e.phase) && (nat_lt 0 e.phase && (is_job e && is_listed e)))
 
 abbrev pub are_rows : List AgcRow → Bool
 are_rows [] = true
@@ -56,7 +56,7 @@ abbrev pub lacking : List AgcRow → List AgcPhaseEntry → Option Fault
 lacking rows entries =
     if not (are_rows rows) then Some PlanRange
     else if not (are_entries entries) then Some PlanRange
-    else if task_twice (rows_told rows) then Some TaskTwice
-    else if phase_twice (entries_told entries) then Some PhaseTwice
-    else if all_want (entries_told entries) then Some TooManyAreas
+    else if task_twice (rows_from_c rows) then Some TaskTwice
+    else if phase_twice (entries_from_c entries) then Some PhaseTwice
+    else if all_want (entries_from_c entries) then Some TooManyAreas
     else None

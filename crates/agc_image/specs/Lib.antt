@@ -1,11 +1,7 @@
 pub mod Images
 pub mod Codes
-pub mod Told
-pub mod Asked
+pub mod FromC
+pub mod Requests
 pub mod Written
 pub mod Lacking
-pub mod Map
-pub mod Jobs
-pub mod Tasks
 pub mod Rules
-pub mod Explaining

@@ -1,117 +1,203 @@
--- Which rule of lawful words a word of a program breaks, 0 for none.
-use Rattle.std.specs.Prelude.{ℕ, ◌+◌, ◌-◌, ◌*◌, ◌/◌, ◌%◌, ◌==◌, nat_lt, ◌&&◌, ◌||◌, not, Bool}
-use Rattle.std.specs.Prelude.{false, if◌then◌else◌, List}
-use Rattle.std.specs.Option.{option_map_or}
-use Rattle.agc_word.specs.Layout.{set_place, area_size, use_words, newjob, time3, lst1, lst2}
-use Rattle.agc_word.specs.Layout.{phase_words, failreg, last_set}
-use Rattle.agc_image.specs.declared.map.AgcMap.{AgcMap}
-use Rattle.agc_image.specs.Map.{word_at}
-use Rattle.agc_image.specs.Jobs.{area_of, is_owned, job_told, urgency_of}
-use Rattle.agc_image.specs.Tasks.{is_task}
+-- The rules of lawful words, and which word breaks one.
+use Rattle.std.specs.Prelude.{◌≡◌, ◌⊎◌, ℕ, zero, suc, ◌+◌, ◌-◌, ◌*◌, ◌/◌, ◌%◌, ◌<◌, ◌≤◌, ◌==◌}
+use Rattle.std.specs.Prelude.{nat_lt, ◌&&◌, ◌||◌, not, Bool, false, IsTrue, if◌then◌else◌, List}
+use Rattle.std.specs.Prelude.{slice_index, Option, IfSome}
+use Rattle.agc_word.specs.Layout.{set_place, use_place, address_of, newjob, time3, lst1, lst2}
+use Rattle.agc_word.specs.Layout.{use_words, phase_words, failreg}
+use Rattle.agc_image.specs.declared.rule.Rule.{Rule}
+use Rattle.agc_image.specs.declared.rule.Rule.TheVariants as rule
+use Rattle.agc_image.specs.declared.explaining.BrokenRule.{BrokenRule}
 
--- by PRIORITY of a set: LOC (4), no priority (5), or an address of no area (6)
-abbrev pub word_rule : AgcMap → ℕ → ℕ → ℕ → ℕ
-word_rule map priority offset word =
-    if priority == 0o77777 then 0
-    else if (offset == 8) && ((word == 0) || nat_lt 16383 word) then 4
-    else if (offset == 11) && nat_lt (urgency_of priority) 512 then 5
-    else if (offset == 11) && (not (urgency_of priority % 512 == 0) &&
-    (area_of map (urgency_of priority % 512) == 0)) then 6
+-- the number of a rule
+abbrev pub number_of : Rule → ℕ
+number_of rule.FifteenBits = 1
+number_of rule.JobNumber = 2
+number_of rule.JobNumberTwice = 3
+number_of rule.JobAddress = 4
+number_of rule.JobPriority = 5
+number_of rule.JobArea = 6
+number_of rule.JobAreaTwice = 7
+number_of rule.AwakeInFront = 8
+number_of rule.UseWord = 9
+number_of rule.NewjobNamesBest = 10
+number_of rule.Time3 = 11
+number_of rule.TaskNear = 12
+number_of rule.TaskAddress = 13
+number_of rule.Gap = 14
+number_of rule.NoGapAfterLast = 15
+number_of rule.NoTaskAfterLast = 16
+number_of rule.PhaseRange = 17
+number_of rule.PhasePair = 18
+number_of rule.AlarmCodes = 19
+
+-- the core set in which a place of it stands: set 7 is after all other tables
+abbrev pub set_at : ℕ → ℕ
+set_at place = if nat_lt place use_words then place / 12 else 7
+
+-- PRIORITY of a core set, and with its sign taken off
+abbrev pub priority_at : List ℕ → ℕ → ℕ
+priority_at words set = slice_index words (set_place set + 11)
+
+abbrev pub urgency_of : ℕ → ℕ
+urgency_of word = if nat_lt word 0o40000 then word else (0o77777 - word)
+
+abbrev pub urgency_at : List ℕ → ℕ → ℕ
+urgency_at words set = urgency_of (priority_at words set)
+
+-- it holds a job; and one that is awake
+abbrev pub is_held : List ℕ → ℕ → Bool
+is_held words set = not (priority_at words set == 0o77777)
+
+abbrev pub is_awake : List ℕ → ℕ → Bool
+is_awake words set = nat_lt (priority_at words set) 0o40000
+
+-- the job in it has this number, or owns the area at this address
+abbrev pub holds_number : List ℕ → ℕ → ℕ → Bool
+holds_number words number set = is_held words set && slice_index words (set_place set) == number
+
+abbrev pub holds_area : List ℕ → ℕ → ℕ → Bool
+holds_area words address set = is_held words set && urgency_at words set % 512 == address
+
+-- one of the first sets has it
+unfoldable pub any_set : (ℕ → Bool) → ℕ → Bool
+any_set has zero = false
+any_set has (suc sets) = any_set has sets || has sets
+
+-- this is the address of a VAC area, or 0
+abbrev pub is_area : ℕ → Bool
+is_area address = address == 0 || (address == address_of 1 || (address == address_of 2
+    || (address == address_of 3 || (address == address_of 4 || address == address_of 5))))
+
+-- the use word of an area: 0 where a job owns it, else its address
+abbrev pub use_word : List ℕ → ℕ → ℕ → ℕ
+use_word words sets area =
+    if any_set (holds_area words (address_of area)) sets then 0 else address_of area
+
+-- the job of a set goes before that of another: it is awake, and that one isn't, has a lower
+-- priority, or the same and a higher number
+abbrev pub is_better : List ℕ → ℕ → ℕ → Bool
+is_better words set best =
+    is_awake words set && (not (is_awake words best)
+    || (nat_lt (priority_at words best / 512) (priority_at words set / 512)
+    || (priority_at words best / 512 == priority_at words set / 512
+    && nat_lt (slice_index words (set_place set)) (slice_index words (set_place best)))))
+
+-- of two sets the one whose job goes before the other's
+abbrev pub better : List ℕ → ℕ → ℕ → ℕ
+better words best set = if is_better words set best then set else best
+
+-- the set of the best job of the first sets
+unfoldable pub best_set : List ℕ → ℕ → ℕ
+best_set words zero = 0
+best_set words (suc sets) = better words (best_set words sets) sets
+
+-- NEWJOB where this is the set of the best job
+abbrev pub newjob_naming : List ℕ → ℕ → ℕ
+newjob_naming words best =
+    if not (is_awake words best) then 0o77777
+    else if nat_lt (priority_at words 0 / 512) (priority_at words best / 512) then 12 * best
     else 0
 
-unfoldable pub set_rule : AgcMap → List ℕ → ℕ → ℕ → ℕ
-set_rule map memory set offset =
-    word_rule map (word_at map memory (set_place set + 11)) offset
-    (word_at map memory (set_place set + offset))
+-- how many of the first places of LST2 have a task, with none empty before them
+unfoldable pub tasks_before : List ℕ → ℕ → ℕ
+tasks_before words zero = 0
+tasks_before words (suc place) =
+    if tasks_before words place == place && not (slice_index words (lst2 + 2 * place) == 0)
+    then suc place else tasks_before words place
 
--- a use word is 0 where a job owns the area, else its address (9)
-unfoldable pub area_rule : AgcMap → List ℕ → ℕ → ℕ
-area_rule map memory area =
-    if word_at map memory (use_words + area - 1)
-    == (if is_owned map memory area then 0 else (map.vac1use + area_size * (area - 1)))
-    then 0 else 9
+-- how many tasks wait
+abbrev pub tasks_in : List ℕ → ℕ
+tasks_in words = tasks_before words 9
 
--- NEWJOB names this set, and an awake job holds it
-unfoldable pub names : AgcMap → List ℕ → ℕ → ℕ → Bool
-names map memory word set =
-    option_map_or (λ job. (word == 12 * set) && not job.asleep) (job_told map memory set) false
+-- how far the first task is, by TIME3; how much further the next, by a word of LST1, one less its
+-- value; and how far the task at a place is
+abbrev pub first_left : ℕ → ℕ
+first_left word = if word == 0 then 0 else (16384 - word)
 
--- NEWJOB is a zero, or names a set with an awake job (10)
-unfoldable pub newjob_rule : AgcMap → List ℕ → ℕ → ℕ
-newjob_rule map memory word =
-    if (word == 0) || ((word == 0o77777) || (names map memory word 1 || (names map memory word 2
-    || (names map memory word 3 || (names map memory word 4 || (names map memory word 5
-    || (names map memory word 6 || ((map.sets == 8) && names map memory word 7))))))))
-    then 0 else 10
+abbrev pub gap_of : ℕ → ℕ
+gap_of word = if nat_lt word 0o40000 then 1 - word else (0o100000 - word)
 
--- LST1 before a task is 1, 0 or negative (14), and 57777 before none (15)
-abbrev pub gap_with : Bool → ℕ → ℕ
-gap_with is_between word =
-    if is_between && (nat_lt 1 word && nat_lt word 0o40000) then 14
-    else if not is_between && not (word == 0o57777) then 15
-    else 0
+unfoldable pub left_at : List ℕ → ℕ → ℕ
+left_at words zero = first_left (slice_index words time3)
+left_at words (suc place) = left_at words place + gap_of (slice_index words (lst1 + place))
 
-unfoldable pub gap_rule : AgcMap → List ℕ → ℕ → ℕ
-gap_rule map memory place =
-    gap_with (is_task map (word_at map memory (lst2 + 2 * place + 2)))
-    (word_at map memory (lst1 + place))
+-- a word of FAILREG with an alarm's code
+abbrev pub is_code : ℕ → Bool
+is_code word = word == 0o1107 || (word == 0o1201 || (word == 0o1202 || word == 0o1203))
 
--- LST2 has no ENDTASK (20), no address above 37777 (13), and no task behind an empty place (16)
-abbrev pub address_rule : AgcMap → Bool → ℕ → ℕ
-address_rule map is_behind address =
-    if address == 0 then 0
-    else if not (is_task map address) then 20
-    else if nat_lt 16383 address then 13
-    else if is_behind then 16
-    else 0
+-- it is neither a code nor 0; nor 0, though no first code is before it
+abbrev pub breaks_code : List ℕ → ℕ → Bool
+breaks_code words place =
+    not (slice_index words place == 0) && not (is_code (slice_index words place))
 
-abbrev pub is_behind_none : AgcMap → List ℕ → ℕ → Bool
-is_behind_none map memory place =
-    nat_lt 0 place && not (is_task map (word_at map memory (lst2 + 2 * place - 2)))
+abbrev pub breaks_second : ℕ → List ℕ → ℕ → Bool
+breaks_second first words place =
+    not (slice_index words place == 0) && (first == 0 || not (is_code (slice_index words place)))
 
-unfoldable pub task_rule : AgcMap → List ℕ → ℕ → ℕ
-task_rule map memory place =
-    address_rule map (is_behind_none map memory place) (word_at map memory (lst2 + 2 * place))
+-- the words of FAILREG that aren't codes in their order: the second only with a first, and as the
+-- latest the first, or where there is a second any
+abbrev pub breaks_codes : List ℕ → ℕ → Bool
+breaks_codes words place =
+    if place == failreg then breaks_code words place
+    else if place == failreg + 1 then breaks_second (slice_index words failreg) words place
+    else if slice_index words (failreg + 1) == 0
+    then not (slice_index words place == slice_index words failreg)
+    else not (is_code (slice_index words place))
 
--- a phase is at most 127 (17), and the word before it its complement (18)
-unfoldable pub phase_rule : AgcMap → List ℕ → ℕ → Bool → ℕ
-phase_rule map memory group is_second =
-    if is_second && nat_lt 127 (word_at map memory (phase_words + 2 * group + 1)) then 17
-    else if not is_second && not (word_at map memory (phase_words + 2 * group)
-    == 0o77777 - word_at map memory (phase_words + 2 * group + 1)) then 18
-    else 0
+-- the word at a place breaks a rule, with so many core sets
+abbrev pub Breaks : Rule → List ℕ → ℕ → ℕ → Type 0
+Breaks rule.FifteenBits words sets place = 32768 ≤ slice_index words place
+Breaks rule.JobNumber words sets place =
+    IsTrue (is_held words (set_at place)) × (place ≡ set_place (set_at place))
+    × ((slice_index words place ≡ 0) ⊎ (sets < slice_index words place))
+Breaks rule.JobNumberTwice words sets place =
+    IsTrue (is_held words (set_at place)) × (place ≡ set_place (set_at place))
+    × IsTrue (any_set (holds_number words (slice_index words place)) (set_at place))
+Breaks rule.JobAddress words sets place =
+    IsTrue (is_held words (set_at place)) × (place ≡ set_place (set_at place) + 8)
+    × ((slice_index words place ≡ 0) ⊎ (16383 < slice_index words place))
+Breaks rule.JobPriority words sets place =
+    IsTrue (is_held words (set_at place)) × (place ≡ set_place (set_at place) + 11)
+    × (urgency_at words (set_at place) < 512)
+Breaks rule.JobArea words sets place =
+    IsTrue (is_held words (set_at place)) × (place ≡ set_place (set_at place) + 11)
+    × (is_area (urgency_at words (set_at place) % 512) ≡ false)
+Breaks rule.JobAreaTwice words sets place =
+    IsTrue (is_held words (set_at place)) × (place ≡ set_place (set_at place) + 11)
+    × ¬ (urgency_at words (set_at place) % 512 ≡ 0)
+    × IsTrue (any_set (holds_area words (urgency_at words (set_at place) % 512)) (set_at place))
+Breaks rule.AwakeInFront words sets place =
+    (place ≡ 11) × (is_awake words 0 ≡ false) × IsTrue (any_set (is_awake words) sets)
+Breaks rule.UseWord words sets place =
+    (use_words ≤ place) × (place < newjob)
+    × ¬ (slice_index words place ≡ use_word words sets (place - use_words + 1))
+Breaks rule.NewjobNamesBest words sets place =
+    (place ≡ newjob) × ¬ (slice_index words place ≡ newjob_naming words (best_set words sets))
+Breaks rule.Time3 words sets place =
+    (place ≡ time3) × ((16383 < slice_index words place)
+    ⊎ ((tasks_in words ≡ 0) × ¬ (slice_index words place ≡ 0)))
+Breaks rule.TaskNear words sets place =
+    (time3 ≤ place) × (place - time3 < tasks_in words) × (16250 < left_at words (place - time3))
+Breaks rule.TaskAddress words sets place =
+    (place ≡ lst2 + 2 * ((place - lst2) / 2)) × ((place - lst2) / 2 < tasks_in words)
+    × (16383 < slice_index words place)
+Breaks rule.Gap words sets place =
+    (lst1 ≤ place) × (place - lst1 + 1 < tasks_in words) × (1 < slice_index words place)
+    × (slice_index words place < 0o40000)
+Breaks rule.NoGapAfterLast words sets place =
+    (lst1 ≤ place) × (place < lst2) × (tasks_in words ≤ place - lst1 + 1)
+    × ¬ (slice_index words place ≡ 0o57777)
+Breaks rule.NoTaskAfterLast words sets place =
+    (lst2 + 2 * tasks_in words ≤ place) × (place < phase_words) × ¬ (slice_index words place ≡ 0)
+Breaks rule.PhaseRange words sets place =
+    (phase_words ≤ place) × (place < failreg) × ((place - phase_words) % 2 ≡ 1)
+    × (127 < slice_index words place)
+Breaks rule.PhasePair words sets place =
+    (phase_words ≤ place) × (place < failreg) × ((place - phase_words) % 2 ≡ 0)
+    × ¬ (slice_index words place ≡ 0o77777 - slice_index words (place + 1))
+Breaks rule.AlarmCodes words sets place =
+    (failreg ≤ place) × (place < failreg + 3) × IsTrue (breaks_codes words place)
 
--- FAILREG has 0 and the four codes (19)
-abbrev pub code_rule : ℕ → ℕ
-code_rule word =
-    if (word == 0) || ((word == 0o1107) || ((word == 0o1201)
-    || ((word == 0o1202) || (word == 0o1203))))
-    then 0 else 19
-
--- core sets 0 to 6, use words, NEWJOB and TIME3, which isn't negative (11)
-unfoldable pub early_rule : AgcMap → List ℕ → ℕ → ℕ
-early_rule map memory place =
-    if nat_lt place use_words then set_rule map memory (place / 12) (place % 12)
-    else if nat_lt place newjob then area_rule map memory (place - use_words + 1)
-    else if nat_lt place time3 then newjob_rule map memory (word_at map memory newjob)
-    else if nat_lt 16383 (word_at map memory time3) then 11
-    else 0
-
--- LST1, LST2, phases and FAILREG
-unfoldable pub late_rule : AgcMap → List ℕ → ℕ → ℕ
-late_rule map memory place =
-    if nat_lt place lst2 then gap_rule map memory (place - lst1)
-    else if nat_lt place phase_words && ((place - lst2) % 2 == 0)
-    then task_rule map memory ((place - lst2) / 2)
-    else if nat_lt place phase_words then 0
-    else if nat_lt place failreg
-    then phase_rule map memory ((place - phase_words) / 2) ((place - phase_words) % 2 == 1)
-    else code_rule (word_at map memory place)
-
--- a word has at most fifteen bits (1), and what is said of its table
-unfoldable pub rule_at : AgcMap → List ℕ → ℕ → ℕ
-rule_at map memory place =
-    if nat_lt 32767 (word_at map memory place) then 1
-    else if nat_lt place lst1 then early_rule map memory place
-    else if nat_lt place last_set then late_rule map memory place
-    else set_rule map memory 7 (place - last_set)
+-- what is found is a place of the array, whose word breaks the rule
+abbrev pub IsFound : List ℕ → ℕ → Option BrokenRule → Type 0
+IsFound words sets broken = IfSome broken (λ b. (b.place < 144) × Breaks b.rule words sets b.place)

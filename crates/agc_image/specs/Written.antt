@@ -1,4 +1,4 @@
--- What a caller's rows and entries have written: a number out of its range does nothing.
+-- The plan in a caller's rows and entries: a number out of its range does nothing.
 use Rattle.std.specs.Prelude.{ℕ, ◌==◌, not, if◌then◌else◌, List, [], ◌∷◌, Option, None, map}
 use Rattle.std.specs.Prelude.{take}
 use Rattle.std.specs.Option.{option_map, option_map_or}
@@ -9,21 +9,21 @@ use Rattle.agc_plan.specs.declared.request.JobStart.TheVariants as job
 use Rattle.agc_plan.specs.declared.request.Task.{Task}
 use Rattle.agc_plan.specs.Begins.{Begins}
 use Rattle.agc_plan.specs.Plans.{Written, Rows}
-use Rattle.agc_image.specs.declared.asked.AgcRequest.{AgcRequest}
-use Rattle.agc_image.specs.declared.lent.AgcPhaseEntry.{AgcPhaseEntry}
-use Rattle.agc_image.specs.declared.lent.AgcRow.{AgcRow}
-use Rattle.agc_image.specs.Told.{address_told, start_told, listing_told}
+use Rattle.agc_image.specs.declared.requests.AgcRequest.{AgcRequest}
+use Rattle.agc_image.specs.declared.borrowed_plan.AgcPhaseEntry.{AgcPhaseEntry}
+use Rattle.agc_image.specs.declared.borrowed_plan.AgcRow.{AgcRow}
+use Rattle.agc_image.specs.FromC.{address_from_c, start_from_c, listing_from_c}
 
 -- an action is a request of kind 1, 2, 5 or 9; any other does nothing
-abbrev pub action_told : AgcRequest → Action
-action_told a =
+abbrev pub action_from_c : AgcRequest → Action
+action_from_c a =
     if a.kind == 1 then option_map_or (λ s. action.Novac s.0 s.1)
-    (start_told a.first a.second a.third) action.Nothing
+    (start_from_c a.first a.second a.third) action.Nothing
     else if a.kind == 2 then option_map_or (λ s. action.Findvac s.0 s.1)
-    (start_told a.first a.second a.third) action.Nothing
-    else if a.kind == 5 then option_map_or action.Rouse (address_told a.first) action.Nothing
+    (start_from_c a.first a.second a.third) action.Nothing
+    else if a.kind == 5 then option_map_or action.Rouse (address_from_c a.first) action.Nothing
     else if a.kind == 9 then option_map_or (λ l. action.List l.0 l.1)
-    (listing_told a.first a.second a.third) action.Nothing
+    (listing_from_c a.first a.second a.third) action.Nothing
     else action.Nothing
 
 -- how many actions a row has, up to the last of a kind other than 0
@@ -35,40 +35,46 @@ count_in row =
     else if not (row.first.kind == 0) then 1
     else 0
 
-abbrev pub actions_told : AgcRow → List Action
-actions_told row =
+abbrev pub actions_from_c : AgcRow → List Action
+actions_from_c row =
     take (count_in row)
-    (action_told row.first ∷ action_told row.second ∷ action_told row.third ∷
-    action_told row.fourth ∷ [])
+    (action_from_c row.first ∷ action_from_c row.second ∷ action_from_c row.third ∷
+    action_from_c row.fourth ∷ [])
 
-abbrev pub row_told : AgcRow → Task × List Action
-row_told row = (record { at = row.at; bank = row.bank }, actions_told row)
+abbrev pub row_from_c : AgcRow → Task × List Action
+row_from_c row = (record { at = row.at; bank = row.bank }, actions_from_c row)
 
-abbrev pub rows_told : List AgcRow → Rows
-rows_told rows = map row_told rows
+abbrev pub rows_from_c : List AgcRow → Rows
+rows_from_c rows = map row_from_c rows
 
 abbrev pub job_told : AgcPhaseEntry → Option JobStart
 job_told e =
     if e.job == 1 then option_map (λ s. job.Novac s.0 s.1)
-    (start_told e.priority e.job_at e.job_bank)
+    (start_from_c e.priority e.job_at e.job_bank)
     else if e.job == 2 then option_map (λ s. job.Findvac s.0 s.1)
-    (start_told e.priority e.job_at e.job_bank)
+    (start_from_c e.priority e.job_at e.job_bank)
     else None
 
 -- a delay of 0 lists none
-abbrev pub listed_told : AgcPhaseEntry → Option (ℕ × Task)
-listed_told e = listing_told e.delay e.task_at e.task_bank
+abbrev pub listed_from_c : AgcPhaseEntry → Option (ℕ × Task)
+listed_from_c e = listing_from_c e.delay e.task_at e.task_bank
 
-abbrev pub begins_told : AgcPhaseEntry → Begins
-begins_told e = record { group = e.group; phase = e.phase; job = job_told e; task = listed_told e }
+abbrev pub begins_from_c : AgcPhaseEntry → Begins
+begins_from_c e = record {
+  group = e.group;
+  phase = e.phase;
+  job = job_told e;
+  task =
+      listed_from_c e;
+}
 
-abbrev pub entries_told : List AgcPhaseEntry → List Begins
-entries_told entries = map begins_told entries
+abbrev pub entries_from_c : List AgcPhaseEntry → List Begins
+entries_from_c entries = map begins_from_c entries
 
-abbrev pub written_told : List AgcRow → List AgcPhaseEntry → Written
-written_told rows entries = record {
-  rows = rows_told rows;
-  entries = entries_told entries;
+abbrev pub plan_from_c : List AgcRow → List AgcPhaseEntry → Written
+plan_from_c rows entries = record {
+  rows = rows_from_c rows;
+  entries = entries_from_c entries;
   key =
       [];
   radar = [];

@@ -7,14 +7,14 @@ ghost use Rattle.agc_image.specs.Images.{IsOpened, IsWritten};
 use agc_word::layout::{OTHERS_SIZE, SET_SIZE};
 use agc_word::{Erasable, Sets, Word};
 
-/// How many words so many core sets have.
+/// The number of words with these core sets.
 fn size_of(sets: Sets) -> usize
     ensures { result ≡ size_of sets }
 {
     OTHERS_SIZE + SET_SIZE * sets.count()
 }
 
-/// Whether the numbers of the first places, as many as these core sets have words, are words.
+/// Whether the first numbers, as many as these core sets have words, are words.
 pub(crate) fn are_words(array: &[u16; 144], sets: Sets) -> bool
     ensures { IsTrue result ↔ AreWords (image_of (count_of sets) array.now) }
 {
@@ -26,7 +26,7 @@ pub(crate) fn are_words(array: &[u16; 144], sets: Sets) -> bool
     greatest < 32768
 }
 
-/// Reads the words of the first places, as many as these core sets have.
+/// Reads the first numbers, as many as these core sets have words.
 pub(crate) fn read(array: &[u16; 144], sets: Sets, image: &mut Erasable)
     requires words { AreWords (image_of (count_of sets) array.now) }
     requires size { length image.old ≡ size_of sets }
@@ -45,8 +45,8 @@ fn known_sets(count: u32) -> Sets
     if count == 7 { Sets::Seven } else { Sets::Eight }
 }
 
-/// Words of so many core sets, 7 or 8, all 00000: room for an image. Source: profile.
-pub fn blank(count: u32) -> Erasable
+/// Words of this many core sets, 7 or 8, all 00000: room for an image.
+pub fn blank_image(count: u32) -> Erasable
     requires { IsSets count }
     ensures words { result ≡ replicate (size_with count) 0 }
     ensures size { length result ≡ size_with count }
@@ -54,8 +54,8 @@ pub fn blank(count: u32) -> Erasable
     Erasable::new(known_sets(count))
 }
 
-/// Reads the image of so many core sets in an array that has one. Source: profile.
-// It fills what it is given, since an answer by value would be copied once more.
+/// Reads the image of this many core sets in an array that has one.
+// Fills an image of the caller's, since one returned by value would be copied once more.
 pub fn open(array: &[u16; 144], count: u32, image: &mut Erasable)
     requires image { IsImage count array.now }
     requires size { length image.old ≡ size_with count }
@@ -64,8 +64,7 @@ pub fn open(array: &[u16; 144], count: u32, image: &mut Erasable)
     read(array, known_sets(count), image);
 }
 
-/// Writes an image into the first places of an array; the numbers after it do not change. Source:
-/// profile.
+/// Writes an image into the first places of an array; the numbers after it do not change.
 pub fn write_back(image: &Erasable, array: &mut [u16; 144])
     ensures { IsWritten image.now array.old array.new }
 {
@@ -74,7 +73,7 @@ pub fn write_back(image: &Erasable, array: &mut [u16; 144])
     }
 }
 
-/// Twelve numbers as words. None where one of them is no word. Source: the listings' words.
+/// Twelve numbers as words. None if one of them is no word. Source: the listings' words.
 pub fn twelve(numbers: &[u16; 12]) -> Option<[Word; 12]>
     ensures valid { IsSome result ↔ AreWords numbers.now }
     ensures words { IfSome result (λ words. words ≡ numbers.now) }
@@ -89,7 +88,7 @@ pub fn twelve(numbers: &[u16; 12]) -> Option<[Word; 12]>
     Some(words)
 }
 
-/// The words of seven core sets in an array, for `agc_machine`. Source: profile.
+/// The words of seven core sets in an array, for `agc_machine`.
 pub fn seven(array: &[u16; 144]) -> [Word; 132]
     requires { AreWords (image_of 7 array.now) }
     ensures { result ≡ image_of 7 array.now }
@@ -101,7 +100,7 @@ pub fn seven(array: &[u16; 144]) -> [Word; 132]
     words
 }
 
-/// Writes all words of eight core sets into an array. Source: profile.
+/// Writes all words of eight core sets into an array.
 pub fn write_all(words: &[Word; 144], array: &mut [u16; 144])
     ensures all { array.new ≡ words.now }
     ensures range { AreWords array.new }

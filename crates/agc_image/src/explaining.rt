@@ -1,95 +1,55 @@
-// Which word of an array isn't lawful, and what would be.
-ghost use Rattle.std.specs.Prelude.{◌<◌, ◌≤◌};
-ghost use Rattle.agc_image.specs.Explaining.{IsAt};
+// The first word of an array that isn't lawful, and the word that would be.
+ghost use Rattle.std.specs.Prelude.{◌≡◌, ◌<◌, ◌≤◌, ℕ, IsTrue, Some};
+ghost use Rattle.agc_image.specs.Rules.{IsFound, any_set, best_set, better, gap_of, holds_area};
+ghost use Rattle.agc_image.specs.Rules.{holds_number, is_area, is_awake, is_better, is_code};
+ghost use Rattle.agc_image.specs.Rules.{is_held, left_at, newjob_naming, priority_at, tasks_in};
+ghost use Rattle.agc_image.specs.Rules.{first_left, urgency_at, use_word};
 
-use crate::jobs::urgency_of;
-use crate::tasks::gap_of;
+use crate::rule::Rule;
 use agc_word::layout::{
-    FAILREG, LST1, LST2, NEWJOB, PHASE_WORDS, SET_SIZE, TIME3, address_of, area_of, set_place,
-    use_place,
+    FAILREG, LST1, LST2, NEWJOB, PHASE_WORDS, SET_SIZE, TIME3, address_of, set_place, use_place,
 };
 
-/// Any of several words would do. Source: profile.
+/// For a word that other words don't determine.
 pub const ANY: u32 = 0xFFFF;
 
-/// A word that has more than fifteen bits.
-const WIDE: u32 = 1;
-/// A job's number that is no job's: 1 to the number of core sets.
-const NUMBER: u32 = 2;
-/// A job's number that the job of an earlier core set has.
-const NUMBER_TWICE: u32 = 3;
-/// LOC of a job that is no address.
-const LOC: u32 = 4;
-/// PRIORITY of a job without a priority.
-const PRIORITY: u32 = 5;
-/// PRIORITY of a job with an address that is no VAC area's.
-const AREA: u32 = 6;
-/// PRIORITY of a job with the VAC area of an earlier core set's job.
-const AREA_TWICE: u32 = 7;
-/// A job is awake, and none in core set 0.
-const FRONT: u32 = 8;
-/// A use word that doesn't say whether its area is owned.
-const USE: u32 = 9;
-/// NEWJOB that names another core set than the best job's.
-const NAMED: u32 = 10;
-/// TIME3 that isn't 0 without a task, or is negative.
-const COUNTER: u32 = 11;
-/// A task that is further away than a delay may be.
-const FAR: u32 = 12;
-/// A task's address that is none.
-const TASK: u32 = 13;
-/// A word of LST1 between two tasks that is no gap.
-const GAP: u32 = 14;
-/// A word of LST1 behind the last task.
-const NO_GAP: u32 = 15;
-/// A word of LST2 behind the last task.
-const NO_TASK: u32 = 16;
-/// A phase above 127.
-const PHASE: u32 = 17;
-/// A phase word that isn't the complement of its pair's other.
-const PAIR: u32 = 18;
-/// A word of FAILREG that is no code, or stands where none is.
-const CODE: u32 = 19;
-
-/// A rule of lawful words that a word breaks. Source: profile.
+/// A rule of lawful words that a word breaks.
 #[derive(Clone, Copy)]
-pub struct Broken {
-    /// The rule's number, 1 to 19.
-    pub rule: u32,
+pub struct BrokenRule {
+    pub rule: Rule,
     /// The word's place in the array, from 0.
     pub place: usize,
-    /// What would have to stand there, where the other words leave one choice; else 65535.
+    /// The number that would have to be there, if the other words leave only one choice; otherwise
+    /// 65535.
     pub wanted: u32,
 }
 
-/// A rule is broken at a place, where any of several words would do.
-fn at(rule: u32, place: usize) -> Option<Broken>
-    requires { place < 144 }
-    ensures { IsAt result }
+/// A broken rule at a place where several words would do.
+fn at(rule: Rule, place: usize) -> Option<BrokenRule>
+    ensures { result ≡ Some (record { rule = rule; place = place; wanted = 0xFFFF }) }
 {
     right(rule, place, ANY)
 }
 
-/// A rule is broken at a place, where this word would be right.
-fn right(rule: u32, place: usize, wanted: u32) -> Option<Broken>
-    requires { place < 144 }
-    ensures { IsAt result }
+/// A broken rule at a place where only this word is right.
+fn right(rule: Rule, place: usize, wanted: u32) -> Option<BrokenRule>
+    ensures { result ≡ Some (record { rule = rule; place = place; wanted = wanted }) }
 {
-    Some(Broken {
+    Some(BrokenRule {
         rule,
         place,
         wanted,
     })
 }
 
-/// The first word that has more than fifteen bits, of so many.
-fn wide(words: &[u16; 144], size: usize) -> Option<Broken>
+/// The first of this many words that has more than fifteen bits.
+fn wide(words: &[u16; 144], size: usize) -> Option<BrokenRule>
     requires { size ≤ 144 }
-    ensures { IsAt result }
+    ensures { (sets : ℕ) → IsFound words.now sets result }
 {
     for place in 0..size {
         if words[place] >= 32768 {
-            return at(WIDE, place);
+            return at(Rule::FifteenBits, place);
         }
     }
     None
@@ -98,110 +58,152 @@ fn wide(words: &[u16; 144], size: usize) -> Option<Broken>
 /// PRIORITY of a core set.
 fn priority_at(words: &[u16; 144], set: usize) -> u16
     requires { set ≤ 7 }
+    ensures { result ≡ priority_at words.now set }
 {
     words[set_place(set) + 11]
 }
 
-/// Whether a core set is free.
-fn is_free(words: &[u16; 144], set: usize) -> bool
+/// Whether a core set holds a job.
+fn is_held(words: &[u16; 144], set: usize) -> bool
     requires { set ≤ 7 }
+    ensures { result ≡ is_held words.now set }
 {
-    priority_at(words, set) == 0o77777
+    priority_at(words, set) != 0o77777
+}
+
+/// Whether a core set holds a job that is awake.
+fn is_awake(words: &[u16; 144], set: usize) -> bool
+    requires { set ≤ 7 }
+    ensures { result ≡ is_awake words.now set }
+{
+    priority_at(words, set) < 0o40000
 }
 
 /// PRIORITY of a core set with its sign taken off.
 fn urgency_at(words: &[u16; 144], set: usize) -> u16
     requires { set ≤ 7 }
+    ensures { result ≡ urgency_at words.now set }
 {
-    urgency_of(priority_at(words, set))
+    let word = priority_at(words, set);
+    if word < 0o40000 {
+        word
+    } else {
+        0o77777u16.saturating_sub(word)
+    }
 }
 
-/// Whether one of the first core sets holds a job of this number.
+/// Whether a core set holds a job of this number.
+fn holds_number(words: &[u16; 144], number: u16, set: usize) -> bool
+    requires { set ≤ 7 }
+    ensures { result ≡ holds_number words.now number set }
+{
+    is_held(words, set) && words[set_place(set)] == number
+}
+
+/// Whether the job of a core set owns the area at this address.
+fn holds_area(words: &[u16; 144], address: u16, set: usize) -> bool
+    requires { set ≤ 7 }
+    ensures { result ≡ holds_area words.now address set }
+{
+    is_held(words, set) && urgency_at(words, set) % 512 == address
+}
+
+/// Whether one of the first `sets` core sets holds a job of this number.
+#[tactic(auto, unfolding(crate::specs::Rules::any_set))]
 fn has_number(words: &[u16; 144], sets: usize, number: u16) -> bool
     requires { sets ≤ 8 }
+    ensures { result ≡ any_set (holds_number words.now number) sets }
 {
+    let mut found = false;
     for set in 0..sets {
-        if !is_free(words, set) && words[set_place(set)] == number {
-            return true;
-        }
+        found = found || holds_number(words, number, set);
     }
-    false
+    found
 }
 
-/// Whether the job of one of the first core sets owns the area at this address.
+/// Whether the job of one of the first `sets` core sets owns the area at this address.
+#[tactic(auto, unfolding(crate::specs::Rules::any_set))]
 fn has_area(words: &[u16; 144], sets: usize, address: u16) -> bool
     requires { sets ≤ 8 }
+    ensures { result ≡ any_set (holds_area words.now address) sets }
 {
+    let mut found = false;
     for set in 0..sets {
-        if !is_free(words, set) && urgency_at(words, set) % 512 == address {
-            return true;
-        }
+        found = found || holds_area(words, address, set);
     }
-    false
+    found
+}
+
+/// Whether a job is awake in one of the first `sets` core sets.
+#[tactic(auto, unfolding(crate::specs::Rules::any_set))]
+fn one_awake(words: &[u16; 144], sets: usize) -> bool
+    requires { sets ≤ 8 }
+    ensures { result ≡ any_set (is_awake words.now) sets }
+{
+    let mut found = false;
+    for set in 0..sets {
+        found = found || is_awake(words, set);
+    }
+    found
 }
 
 /// Whether this is the address of a VAC area, or 0.
-fn is_area(address: u16) -> bool {
-    let area = area_of(address);
-    area <= 5 && address_of(area) == address
+fn is_area(address: u16) -> bool
+    ensures { result ≡ is_area address }
+{
+    address == 0
+        || address == address_of(1)
+        || address == address_of(2)
+        || address == address_of(3)
+        || address == address_of(4)
+        || address == address_of(5)
 }
 
-/// What is wrong with PRIORITY of a job.
-fn in_priority(words: &[u16; 144], set: usize) -> Option<Broken>
-    requires { set ≤ 7 }
-    ensures { IsAt result }
+/// The rule that PRIORITY of a job breaks.
+fn in_priority(words: &[u16; 144], set: usize) -> Option<BrokenRule>
+    requires set { set ≤ 7 }
+    requires held { IsTrue (is_held words.now set) }
+    ensures { (sets : ℕ) → IsFound words.now sets result }
 {
     let place = set_place(set) + 11;
     let urgency = urgency_at(words, set);
     let address = urgency % 512;
     if urgency < 512 {
-        at(PRIORITY, place)
+        at(Rule::JobPriority, place)
     } else if !is_area(address) {
-        at(AREA, place)
+        at(Rule::JobArea, place)
     } else if address != 0 && has_area(words, set, address) {
-        at(AREA_TWICE, place)
+        at(Rule::JobAreaTwice, place)
     } else {
         None
     }
 }
 
-/// What is wrong with the job in a core set.
-fn in_job(words: &[u16; 144], sets: usize, set: usize) -> Option<Broken>
+/// The rule that the words of the job in a core set break.
+fn in_job(words: &[u16; 144], sets: usize, set: usize) -> Option<BrokenRule>
     requires { set ≤ 7 }
-    ensures { IsAt result }
+    ensures { IsFound words.now sets result }
 {
     let place = set_place(set);
     let number = words[place];
     let address = words[place + 8];
-    if is_free(words, set) {
+    if !is_held(words, set) {
         None
     } else if number < 1 || number as usize > sets {
-        at(NUMBER, place)
+        at(Rule::JobNumber, place)
     } else if has_number(words, set, number) {
-        at(NUMBER_TWICE, place)
+        at(Rule::JobNumberTwice, place)
     } else if address < 1 || address > 16383 {
-        at(LOC, place + 8)
+        at(Rule::JobAddress, place + 8)
     } else {
         in_priority(words, set)
     }
 }
 
-/// Whether a job is awake in one of so many core sets.
-fn one_awake(words: &[u16; 144], sets: usize) -> bool
+/// The rule that the core sets break.
+fn in_sets(words: &[u16; 144], sets: usize) -> Option<BrokenRule>
     requires { sets ≤ 8 }
-{
-    for set in 0..sets {
-        if priority_at(words, set) < 0o40000 {
-            return true;
-        }
-    }
-    false
-}
-
-/// What is wrong with the core sets.
-fn in_sets(words: &[u16; 144], sets: usize) -> Option<Broken>
-    requires { sets ≤ 8 }
-    ensures { IsAt result }
+    ensures { IsFound words.now sets result }
 {
     for set in 0..sets {
         match in_job(words, sets, set) {
@@ -209,57 +211,87 @@ fn in_sets(words: &[u16; 144], sets: usize) -> Option<Broken>
             None => {}
         }
     }
-    if one_awake(words, sets) && priority_at(words, 0) >= 0o40000 {
-        return at(FRONT, 11);
+    if one_awake(words, sets) && !is_awake(words, 0) {
+        return at(Rule::AwakeInFront, 11);
     }
     None
 }
 
-/// What is wrong with the use words of the VAC areas.
-fn in_areas(words: &[u16; 144], sets: usize) -> Option<Broken>
+/// The use word of a VAC area, 1 to 5: 0 where a job owns it, otherwise its address.
+fn use_word(words: &[u16; 144], sets: usize, area: usize) -> u16
+    requires sets { sets ≤ 8 }
+    requires area { (1 ≤ area) × (area ≤ 5) }
+    ensures { result ≡ use_word words.now sets area }
+{
+    let address = address_of(area as u16);
+    if has_area(words, sets, address) {
+        0
+    } else {
+        address
+    }
+}
+
+/// The rule that the use words of the VAC areas break.
+fn in_areas(words: &[u16; 144], sets: usize) -> Option<BrokenRule>
     requires { sets ≤ 8 }
-    ensures { IsAt result }
+    ensures { IsFound words.now sets result }
 {
     for area in 1..6usize {
-        let address = address_of(area as u16);
-        let wanted = if has_area(words, sets, address) {
-            0
-        } else {
-            address
-        };
+        let wanted = use_word(words, sets, area);
         if words[use_place(area)] != wanted {
-            return right(USE, use_place(area), u32::from(wanted));
+            return right(Rule::UseWord, use_place(area), u32::from(wanted));
         }
     }
     None
 }
 
-/// The core set of the more urgent of two awake jobs, and of equals of that with the lower number.
+/// Whether the job of a core set goes before that of another: of two awake jobs the one with the
+/// higher priority, and of equals the one with the lower number.
+fn is_better(words: &[u16; 144], set: usize, best: usize) -> bool
+    requires set { set ≤ 7 }
+    requires best { best ≤ 7 }
+    ensures { result ≡ is_better words.now set best }
+{
+    let this = priority_at(words, set) / 512;
+    let that = priority_at(words, best) / 512;
+    let is_first = words[set_place(set)] < words[set_place(best)];
+    is_awake(words, set) && (!is_awake(words, best) || that < this || (that == this && is_first))
+}
+
+/// Of two core sets the one whose job goes before the other's.
 fn better(words: &[u16; 144], best: usize, set: usize) -> usize
     requires best { best ≤ 7 }
     requires set { set ≤ 7 }
-    ensures { result ≤ 7 }
+    ensures choice { result ≡ better words.now best set }
+    ensures range { result ≤ 7 }
 {
-    let this = priority_at(words, set);
-    let that = priority_at(words, best);
-    let wins = this / 512 > that / 512
-        || (this / 512 == that / 512 && words[set_place(set)] < words[set_place(best)]);
-    if this < 0o40000 && (that >= 0o40000 || wins) {
+    if is_better(words, set, best) {
         set
     } else {
         best
     }
 }
 
-/// What NEWJOB would have to be.
-fn newjob_of(words: &[u16; 144], sets: usize) -> u16
+/// The core set of the best job.
+#[tactic(auto, unfolding(crate::specs::Rules::best_set))]
+fn best_set(words: &[u16; 144], sets: usize) -> usize
     requires { sets ≤ 8 }
+    ensures set { result ≡ best_set words.now sets }
+    ensures range { result ≤ 7 }
 {
     let mut best = 0usize;
     for set in 0..sets {
         best = better(words, best, set);
     }
-    if priority_at(words, best) >= 0o40000 {
+    best
+}
+
+/// NEWJOB, where this is the core set of the best job.
+fn newjob_naming(words: &[u16; 144], best: usize) -> u16
+    requires { best ≤ 7 }
+    ensures { result ≡ newjob_naming words.now best }
+{
+    if !is_awake(words, best) {
         0o77777
     } else if priority_at(words, best) / 512 > priority_at(words, 0) / 512 {
         (SET_SIZE * best) as u16
@@ -268,168 +300,213 @@ fn newjob_of(words: &[u16; 144], sets: usize) -> u16
     }
 }
 
-/// What is wrong with NEWJOB.
-fn in_newjob(words: &[u16; 144], sets: usize) -> Option<Broken>
+/// The rule that NEWJOB breaks.
+fn in_newjob(words: &[u16; 144], sets: usize) -> Option<BrokenRule>
     requires { sets ≤ 8 }
-    ensures { IsAt result }
+    ensures { IsFound words.now sets result }
 {
-    let wanted = newjob_of(words, sets);
+    let wanted = newjob_naming(words, best_set(words, sets));
     if words[NEWJOB] != wanted {
-        return right(NAMED, NEWJOB, u32::from(wanted));
+        return right(Rule::NewjobNamesBest, NEWJOB, u32::from(wanted));
     }
     None
 }
 
 /// How many tasks wait: those before the first empty place.
+#[tactic(auto, unfolding(crate::specs::Rules::tasks_before))]
 fn tasks_in(words: &[u16; 144]) -> usize
-    ensures { result ≤ 9 }
+    ensures count { result ≡ tasks_in words.now }
+    ensures range { result ≤ 9 }
 {
+    let mut count = 0usize;
     for place in 0..9usize {
-        if words[LST2 + 2 * place] == 0 {
-            return place;
-        }
+        count = if count == place && words[LST2 + 2 * place] != 0 {
+            place + 1
+        } else {
+            count
+        };
     }
-    9
+    count
 }
 
-/// What is wrong with a task and the gap behind it, where it is so far from now.
-fn in_task(words: &[u16; 144], place: usize, count: usize, left: u32) -> Option<Broken>
+/// The centiseconds that are left to the first task, by TIME3.
+fn first_left(word: u16) -> u32
+    ensures value { result ≡ first_left word }
+    ensures bound { result ≤ 16384 }
+{
+    if word == 0 {
+        0
+    } else {
+        16384u32.saturating_sub(u32::from(word))
+    }
+}
+
+/// How many centiseconds the next task is later, by a word of LST1.
+fn gap_of(word: u16) -> u32
+    ensures value { result ≡ gap_of word }
+    ensures bound { result ≤ 16384 }
+{
+    if word < 0o40000 {
+        u32::from(1u16.saturating_sub(word))
+    } else {
+        0o100000u32.saturating_sub(u32::from(word))
+    }
+}
+
+/// The centiseconds that are left to the task at a place.
+#[tactic(auto, unfolding(crate::specs::Rules::left_at))]
+fn left_at(words: &[u16; 144], place: usize) -> u32
     requires { place < 9 }
-    ensures { IsAt result }
+    ensures { result ≡ left_at words.now place }
+{
+    let mut left = first_left(words[TIME3]);
+    for k in 0..place {
+        left += gap_of(words[LST1 + k]);
+    }
+    left
+}
+
+/// The rule that a task breaks, or the gap after it, of this many tasks.
+fn in_task(words: &[u16; 144], place: usize, count: usize) -> Option<BrokenRule>
+    requires place { place < count }
+    requires count { count ≤ 9 }
+    requires tasks { count ≡ tasks_in words.now }
+    ensures { (sets : ℕ) → IsFound words.now sets result }
 {
     let gap = words[LST1 + place];
-    if left > 16250 && place == 0 {
-        at(FAR, TIME3)
-    } else if left > 16250 {
-        at(FAR, LST1 + place.saturating_sub(1))
+    if left_at(words, place) > 16250 {
+        at(Rule::TaskNear, TIME3 + place)
     } else if words[LST2 + 2 * place] > 16383 {
-        at(TASK, LST2 + 2 * place)
+        at(Rule::TaskAddress, LST2 + 2 * place)
     } else if place + 1 < count && gap > 1 && gap < 0o40000 {
-        at(GAP, LST1 + place)
+        at(Rule::Gap, LST1 + place)
     } else {
         None
     }
 }
 
-/// What is wrong with the tasks that wait.
-fn in_tasks(words: &[u16; 144], count: usize) -> Option<Broken>
-    requires { count ≤ 9 }
-    ensures { IsAt result }
+/// The rule that the waiting tasks break.
+fn in_tasks(words: &[u16; 144], count: usize) -> Option<BrokenRule>
+    requires range { count ≤ 9 }
+    requires tasks { count ≡ tasks_in words.now }
+    ensures { (sets : ℕ) → IsFound words.now sets result }
 {
     let counter = words[TIME3];
     if count == 0 && counter != 0 {
-        return right(COUNTER, TIME3, 0);
+        return right(Rule::Time3, TIME3, 0);
     }
     if counter > 16383 {
-        return at(COUNTER, TIME3);
+        return at(Rule::Time3, TIME3);
     }
-    let mut left: u32 = if counter == 0 {
-        0
-    } else {
-        16384u32.saturating_sub(u32::from(counter))
-    };
     for place in 0..count {
-        match in_task(words, place, count, left) {
+        match in_task(words, place, count) {
             Some(broken) => return Some(broken),
             None => {}
         }
-        left = left.saturating_add(gap_of(words[LST1 + place]));
     }
     None
 }
 
-/// What is wrong with LST1 and LST2 behind so many tasks.
-fn behind_tasks(words: &[u16; 144], count: usize) -> Option<Broken>
-    requires { count ≤ 9 }
-    ensures { IsAt result }
+/// The rule that LST1 and LST2 break after the last of this many tasks.
+fn after_tasks(words: &[u16; 144], count: usize) -> Option<BrokenRule>
+    requires range { count ≤ 9 }
+    requires tasks { count ≡ tasks_in words.now }
+    ensures { (sets : ℕ) → IsFound words.now sets result }
 {
     for place in LST1 + count.saturating_sub(1)..LST2 {
         if words[place] != 0o57777 {
-            return right(NO_GAP, place, 0o57777);
+            return right(Rule::NoGapAfterLast, place, 0o57777);
         }
     }
     for place in LST2 + 2 * count..PHASE_WORDS {
         if words[place] != 0 {
-            return right(NO_TASK, place, 0);
+            return right(Rule::NoTaskAfterLast, place, 0);
         }
     }
     None
 }
 
-/// What is wrong with the phases.
-fn in_phases(words: &[u16; 144]) -> Option<Broken>
-    ensures { IsAt result }
+/// The rule that the phases break.
+fn in_phases(words: &[u16; 144]) -> Option<BrokenRule>
+    ensures { (sets : ℕ) → IsFound words.now sets result }
 {
     for group in 0..6usize {
         let place = PHASE_WORDS + 2 * group;
         let phase = words[place + 1];
         let minus = 0o77777u16.saturating_sub(phase);
         if phase > 127 {
-            return at(PHASE, place + 1);
+            return at(Rule::PhaseRange, place + 1);
         }
         if words[place] != minus {
-            return right(PAIR, place, u32::from(minus));
+            return right(Rule::PhasePair, place, u32::from(minus));
         }
     }
     None
 }
 
-/// Whether this is a code's word.
-fn is_code(word: u16) -> bool {
-    match word {
-        0o1107 => true,
-        0o1201 => true,
-        0o1202 => true,
-        0o1203 => true,
-        _ => false,
-    }
+/// Whether this is the word of an alarm's code.
+fn is_code(word: u16) -> bool
+    ensures { result ≡ is_code word }
+{
+    word == 0o1107 || word == 0o1201 || word == 0o1202 || word == 0o1203
 }
 
-/// What is wrong with FAILREG.
-fn in_failreg(words: &[u16; 144]) -> Option<Broken>
-    ensures { IsAt result }
+/// The rule that FAILREG breaks.
+fn in_failreg(words: &[u16; 144]) -> Option<BrokenRule>
+    ensures { (sets : ℕ) → IsFound words.now sets result }
 {
     let first = words[FAILREG];
     let second = words[FAILREG + 1];
     let latest = words[FAILREG + 2];
     if first != 0 && !is_code(first) {
-        at(CODE, FAILREG)
+        at(Rule::AlarmCodes, FAILREG)
     } else if first == 0 && second != 0 {
-        right(CODE, FAILREG + 1, 0)
+        right(Rule::AlarmCodes, FAILREG + 1, 0)
     } else if second != 0 && !is_code(second) {
-        at(CODE, FAILREG + 1)
+        at(Rule::AlarmCodes, FAILREG + 1)
     } else if second == 0 && latest != first {
-        right(CODE, FAILREG + 2, u32::from(first))
+        right(Rule::AlarmCodes, FAILREG + 2, u32::from(first))
     } else if second != 0 && !is_code(latest) {
-        at(CODE, FAILREG + 2)
+        at(Rule::AlarmCodes, FAILREG + 2)
     } else {
         None
     }
 }
 
-/// The first of two rules that is broken.
-fn first_of(first: Option<Broken>, second: Option<Broken>) -> Option<Broken>
-    requires first { IsAt first }
-    requires second { IsAt second }
-    ensures { IsAt result }
+/// The rule that tasks, phases or codes break.
+fn in_others(words: &[u16; 144]) -> Option<BrokenRule>
+    ensures { (sets : ℕ) → IsFound words.now sets result }
 {
-    match first {
+    let count = tasks_in(words);
+    if let Some(broken) = in_tasks(words, count) {
+        return Some(broken);
+    }
+    if let Some(broken) = after_tasks(words, count) {
+        return Some(broken);
+    }
+    match in_phases(words) {
         Some(broken) => Some(broken),
-        None => second,
+        None => in_failreg(words),
     }
 }
 
-/// The first rule of lawful words that those of seven core sets or eight break; None where they
-/// break none. Source: profile.
-pub fn first_broken(words: &[u16; 144], sets: usize) -> Option<Broken>
+/// The first rule of lawful words that those of seven or eight core sets break; None if they break
+/// none.
+pub fn first_broken(words: &[u16; 144], sets: usize) -> Option<BrokenRule>
     requires { sets ≤ 8 }
-    ensures { IsAt result }
+    ensures { IsFound words.now sets result }
 {
-    let size = 48 + 12 * sets;
-    let count = tasks_in(words);
-    let cores = first_of(wide(words, size), in_sets(words, sets));
-    let others = first_of(in_areas(words, sets), in_newjob(words, sets));
-    let tasks = first_of(in_tasks(words, count), behind_tasks(words, count));
-    let base = first_of(in_phases(words), in_failreg(words));
-    first_of(first_of(cores, others), first_of(tasks, base))
+    if let Some(broken) = wide(words, 48 + 12 * sets) {
+        return Some(broken);
+    }
+    if let Some(broken) = in_sets(words, sets) {
+        return Some(broken);
+    }
+    if let Some(broken) = in_areas(words, sets) {
+        return Some(broken);
+    }
+    match in_newjob(words, sets) {
+        Some(broken) => Some(broken),
+        None => in_others(words),
+    }
 }

@@ -1,4 +1,4 @@
-// What is wrong with what a caller hands in.
+// Faults in a caller's data.
 ghost use Rattle.std.specs.Prelude.{◌≡◌, IfNone, length};
 ghost use Rattle.agc_word.specs.Profiles.{count_of, size_of};
 ghost use Rattle.agc_image.specs.Codes.{code_of, code_for, Coded};
@@ -9,7 +9,7 @@ use crate::lawful::is_lawful;
 use crate::numbers::sets;
 use agc_word::{Erasable, Sets};
 
-/// Why a call isn't served. Source: profile.
+/// A reason why a call isn't served.
 #[derive(Clone, Copy, PartialEq, Eq)]
 pub enum Fault {
     /// The number of core sets is neither 7 nor 8.
@@ -22,7 +22,7 @@ pub enum Fault {
     OutOfRange,
     /// A value of the call is no word of fifteen bits.
     NotAWord,
-    /// It isn't the time for the call: a task is due, or at a dispatch none is.
+    /// The call comes at the wrong time: a task is due or, for a dispatch, none is.
     NotNow,
     /// The image is lawful, and no step leaves it so: MODE or PUSHLOC of a job isn't 0, or a gap of
     /// LST1 is minus zero.
@@ -48,7 +48,7 @@ pub enum Fault {
 }
 
 impl Fault {
-    /// The code of the fault: 1 to 6, or 8 to 17. Source: profile.
+    /// The code of the fault: 1 to 6, or 8 to 17.
     pub fn code(self) -> u32
         ensures { result ≡ code_of self }
     {
@@ -73,9 +73,9 @@ impl Fault {
     }
 }
 
-/// Reads the image of so many core sets from any array, into words of as many: what is wrong with
-/// it, None exactly where it is one, also inside a tick. Source: profile.
-// It fills what it is given, since an answer by value would be copied once more.
+/// Reads the image of this many core sets from any array, into words of as many. Returns the fault:
+/// None exactly if it is an image, even inside a tick.
+// Fills an image of the caller's, since one returned by value would be copied once more.
 pub fn try_open(array: &[u16; 144], sets: Sets, image: &mut Erasable) -> Option<Fault>
     requires size { length image.old ≡ size_of sets }
     ensures code { Coded (code_for result) (count_of sets) array.now (Unit {0}) (Unit {0})
@@ -92,8 +92,8 @@ pub fn try_open(array: &[u16; 144], sets: Sets, image: &mut Erasable) -> Option<
     None
 }
 
-/// What is wrong with an array as an image of so many core sets: None exactly where it is one, also
-/// inside a tick. Source: profile.
+/// The fault of an array as an image with this many core sets. None exactly if it is one, even
+/// inside a tick.
 pub fn image_fault(array: &[u16; 144], count: u32) -> Option<Fault>
     ensures { Coded (code_for result) count array.now (Unit {0}) (Unit {0}) (Unit {0}) }
 {

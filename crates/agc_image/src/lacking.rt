@@ -1,21 +1,21 @@
-// What a caller's plan lacks.
+// The faults of a caller's plan.
 ghost use Rattle.std.specs.Prelude.{◌≡◌, IfNone, false};
 ghost use Rattle.agc_plan.specs.Plans.{has_task, task_twice, has_entry, phase_twice, group_wants};
 ghost use Rattle.agc_plan.specs.Plans.{all_want};
 ghost use Rattle.agc_plan.specs.Quiet.{BeginsQuietly};
-ghost use Rattle.agc_image.specs.Written.{rows_told, entries_told, written_told, job_told};
+ghost use Rattle.agc_image.specs.Written.{rows_from_c, entries_from_c, plan_from_c, job_told};
 ghost use Rattle.agc_image.specs.Lacking.{is_action, is_row, is_job, is_listed, is_entry};
 ghost use Rattle.agc_image.specs.Lacking.{are_rows, are_entries, lacking};
 
-use crate::asked::{AgcRequest, listing_of, start_of, task_of};
+use crate::borrowed_plan::{AgcPhaseEntry, AgcRow, job_of, listed_of};
 use crate::fault::Fault;
-use crate::lent::{AgcPhaseEntry, AgcRow, job_of, listed_of};
 use crate::numbers::{address, group, phase};
+use crate::requests::{AgcRequest, listing_of, start_of, task_of};
 use agc_plan::wants_area;
 
 /// Whether a task has a row.
 fn has_row(rows: &[AgcRow], at: u32, bank: u32) -> bool
-    ensures { result ≡ has_task (rows_told rows.now) (record { at = at; bank = bank }) }
+    ensures { result ≡ has_task (rows_from_c rows.now) (record { at = at; bank = bank }) }
 {
     for row in rows {
         if row.at == at && row.bank == bank {
@@ -25,21 +25,21 @@ fn has_row(rows: &[AgcRow], at: u32, bank: u32) -> bool
     false
 }
 
-/// Whether a task has a row, which it has only where it is marked.
+/// Whether a task has a row. It has none if it isn't marked.
 fn has_marked(marked: bool, rows: &[AgcRow], at: u32, bank: u32) -> bool
     requires { marked ≡ false
-        → has_task (rows_told rows.now) (record { at = at; bank = bank }) ≡ false }
-    ensures { result ≡ has_task (rows_told rows.now) (record { at = at; bank = bank }) }
+        → has_task (rows_from_c rows.now) (record { at = at; bank = bank }) ≡ false }
+    ensures { result ≡ has_task (rows_from_c rows.now) (record { at = at; bank = bank }) }
 {
     marked && has_row(rows, at, bank)
 }
 
 /// Whether one task has two rows.
 fn task_twice(rows: &[AgcRow]) -> bool
-    ensures { result ≡ task_twice (rows_told rows.now) }
+    ensures { result ≡ task_twice (rows_from_c rows.now) }
 {
-    // From the last row to the first. A row is compared with those behind it only where one of
-    // these has the same mark, which few rows of a plan have.
+    // From the last row to the first. A row is compared with those after it only where one of these
+    // has the same mark, which few rows of a plan have.
     let mut marks = [false; 64];
     for k in 0..rows.len() {
         let place = rows.len() - 1 - k;
@@ -55,7 +55,7 @@ fn task_twice(rows: &[AgcRow]) -> bool
 
 /// Whether a group's phase has an entry.
 fn has_entry(entries: &[AgcPhaseEntry], group: u32, phase: u32) -> bool
-    ensures { result ≡ has_entry (entries_told entries.now) group phase }
+    ensures { result ≡ has_entry (entries_from_c entries.now) group phase }
 {
     for other in entries {
         if other.group == group && other.phase == phase {
@@ -67,7 +67,7 @@ fn has_entry(entries: &[AgcPhaseEntry], group: u32, phase: u32) -> bool
 
 /// Whether a group's phase has two entries.
 fn phase_twice(entries: &[AgcPhaseEntry]) -> bool
-    ensures { result ≡ phase_twice (entries_told entries.now) }
+    ensures { result ≡ phase_twice (entries_from_c entries.now) }
 {
     for (k, entry) in entries.iter().enumerate() {
         if has_entry(&entries[k + 1..], entry.group, entry.phase) {
@@ -79,7 +79,7 @@ fn phase_twice(entries: &[AgcPhaseEntry]) -> bool
 
 /// Whether an entry of the group names a job with an area.
 fn group_wants(entries: &[AgcPhaseEntry], group: u32) -> bool
-    ensures { result ≡ group_wants (entries_told entries.now) group }
+    ensures { result ≡ group_wants (entries_from_c entries.now) group }
 {
     for entry in entries {
         if entry.group == group && wants_area(job_of(entry)) {
@@ -89,9 +89,9 @@ fn group_wants(entries: &[AgcPhaseEntry], group: u32) -> bool
     false
 }
 
-/// Whether each of the six groups has such an entry.
+/// Whether each of the six groups has an entry that wants a VAC area.
 fn all_want(entries: &[AgcPhaseEntry]) -> bool
-    ensures { result ≡ all_want (entries_told entries.now) }
+    ensures { result ≡ all_want (entries_from_c entries.now) }
 {
     group_wants(entries, 1)
         && group_wants(entries, 2)
@@ -115,7 +115,7 @@ fn is_doing(a: &AgcRequest) -> bool
     }
 }
 
-/// Whether numbers are an action. Source: profile.
+/// Whether numbers are an action.
 // Most rows have fewer than four, so the test for none is in line.
 #[inline(always)]
 pub fn is_action(a: &AgcRequest) -> bool
@@ -156,7 +156,7 @@ fn is_entry(e: &AgcPhaseEntry) -> bool
     group(e.group).is_some() && phase(e.phase).is_some() && 0 < e.phase && is_job(e) && is_listed(e)
 }
 
-/// Whether all rows are.
+/// Whether the numbers of all rows are rows.
 fn are_rows(rows: &[AgcRow]) -> bool
     ensures { result ≡ are_rows rows.now }
 {
@@ -168,7 +168,7 @@ fn are_rows(rows: &[AgcRow]) -> bool
     true
 }
 
-/// Whether all entries are.
+/// Whether the numbers of all entries are entries.
 fn are_entries(entries: &[AgcPhaseEntry]) -> bool
     ensures { result ≡ are_entries entries.now }
 {
@@ -180,12 +180,12 @@ fn are_entries(entries: &[AgcPhaseEntry]) -> bool
     true
 }
 
-/// What rows and entries lack to be a plan: the first of `PlanRange`, `TaskTwice`, `PhaseTwice` and
-/// `TooManyAreas`. None where they are one, and then an era of it begins with no alarm, whatever
-/// the six phases. Source: profile.
+/// The first fault for which rows and entries are no plan: `PlanRange`, `TaskTwice`, `PhaseTwice`
+/// or `TooManyAreas`. None if they are one; then an era that begins by it raises no alarm, whatever
+/// the six phases.
 pub fn plan_lacks(rows: &[AgcRow], entries: &[AgcPhaseEntry]) -> Option<Fault>
     ensures first { result ≡ lacking rows.now entries.now }
-    ensures quiet { IfNone result (BeginsQuietly (written_told rows.now entries.now)) }
+    ensures quiet { IfNone result (BeginsQuietly (plan_from_c rows.now entries.now)) }
 {
     if !are_rows(rows) {
         Some(Fault::PlanRange)

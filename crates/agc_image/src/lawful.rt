@@ -4,7 +4,7 @@ ghost use Rattle.agc_image.specs.Images.{IsLawful};
 
 use agc_word::Erasable;
 
-/// Whether the words of each table are lawful, between requests or inside a tick. Source: profile.
+/// Whether the words of each table are lawful, between requests or inside a tick.
 pub fn is_lawful(image: &Erasable) -> bool
     ensures { IsTrue result ↔ IsLawful image.now }
 {

@@ -4,13 +4,13 @@ ghost use Rattle.agc_plan.specs.Ranges.{IsPriority, IsAddress, IsDelay, IsSix};
 ghost use Rattle.agc_word.specs.Profiles.{count_of};
 ghost use Rattle.agc_phase.specs.Image.{code_of_word};
 ghost use Rattle.agc_image.specs.Images.{IsSets};
-ghost use Rattle.agc_image.specs.Told.{word_told, priority_told, address_told, delay_told};
-ghost use Rattle.agc_image.specs.Told.{six_told, phase_told};
+ghost use Rattle.agc_image.specs.FromC.{word_from_c, priority_from_c, address_from_c, delay_from_c};
+ghost use Rattle.agc_image.specs.FromC.{six_from_c, phase_from_c};
 
 use agc_plan::{Address, Code, Delay, Group, Phase, Place, Priority};
 use agc_word::{Sets, Word};
 
-/// A number of core sets. None but for 7 and 8. Source: profile.
+/// A number of core sets. None but for 7 and 8.
 pub fn sets(count: u32) -> Option<Sets>
     ensures valid { IsSome result ↔ IsSets count }
     ensures value { IfSome result (λ sets. count_of sets ≡ count) }
@@ -26,7 +26,7 @@ pub fn sets(count: u32) -> Option<Sets>
 pub fn priority(number: u32) -> Option<Priority>
     ensures valid { IsSome result ↔ IsPriority number }
     ensures value { IfSome result (λ priority. priority ≡ number) }
-    ensures told { result ≡ priority_told number }
+    ensures told { result ≡ priority_from_c number }
 {
     match u8::try_from(number) {
         Ok(number) => Priority::new(number),
@@ -38,7 +38,7 @@ pub fn priority(number: u32) -> Option<Priority>
 pub fn address(number: u32) -> Option<Address>
     ensures valid { IsSome result ↔ IsAddress number }
     ensures value { IfSome result (λ address. address ≡ number) }
-    ensures told { result ≡ address_told number }
+    ensures told { result ≡ address_from_c number }
 {
     match u16::try_from(number) {
         Ok(number) => Address::new(number),
@@ -46,11 +46,11 @@ pub fn address(number: u32) -> Option<Address>
     }
 }
 
-/// A delay in centiseconds. None outside 1 to 16250. Source: profile.
+/// A delay in centiseconds. None outside 1 to 16250.
 pub fn delay(number: u32) -> Option<Delay>
     ensures valid { IsSome result ↔ IsDelay number }
     ensures value { IfSome result (λ delay. delay ≡ number) }
-    ensures told { result ≡ delay_told number }
+    ensures told { result ≡ delay_from_c number }
 {
     match u16::try_from(number) {
         Ok(number) => Delay::new(number),
@@ -62,7 +62,7 @@ pub fn delay(number: u32) -> Option<Delay>
 pub fn group(number: u32) -> Option<Group>
     ensures valid { IsSome result ↔ IsSix number }
     ensures value { IfSome result (λ group. group ≡ number) }
-    ensures told { result ≡ six_told number }
+    ensures told { result ≡ six_from_c number }
 {
     match u8::try_from(number) {
         Ok(number) => Group::new(number),
@@ -70,11 +70,11 @@ pub fn group(number: u32) -> Option<Group>
     }
 }
 
-/// A phase. None above 127. Source: profile.
+/// A phase. None above 127.
 pub fn phase(number: u32) -> Option<Phase>
     ensures valid { IsSome result ↔ (number ≤ 127) }
     ensures value { IfSome result (λ phase. phase ≡ number) }
-    ensures told { result ≡ phase_told number }
+    ensures told { result ≡ phase_from_c number }
 {
     match u8::try_from(number) {
         Ok(number) => Phase::new(number),
@@ -82,11 +82,11 @@ pub fn phase(number: u32) -> Option<Phase>
     }
 }
 
-/// The place of a work word. None outside 1 to 6. Source: profile.
+/// The place of a work word. None outside 1 to 6.
 pub fn place(number: u32) -> Option<Place>
     ensures valid { IsSome result ↔ IsSix number }
     ensures value { IfSome result (λ place. place ≡ number) }
-    ensures told { result ≡ six_told number }
+    ensures told { result ≡ six_from_c number }
 {
     match u8::try_from(number) {
         Ok(number) => Place::new(number),
@@ -98,7 +98,7 @@ pub fn place(number: u32) -> Option<Place>
 pub fn word(number: u32) -> Option<Word>
     ensures valid { IsSome result ↔ (number < 32768) }
     ensures value { IfSome result (λ word. word ≡ number) }
-    ensures told { result ≡ word_told number }
+    ensures told { result ≡ word_from_c number }
 {
     match u16::try_from(number) {
         Ok(number) => Word::new(number),

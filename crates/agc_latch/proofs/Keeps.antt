@@ -16,7 +16,7 @@ use Rattle.agc_latch.specs.Lines.{raised, zeros}
 use Rattle.agc_latch.specs.Latches.{total, takers_as, takers, seats, given, posted_at, taken_at, IsInTurn, IsTurnOf, HasTakenNothing, FitsRole, Fits, IsLatch}
 use Rattle.agc_latch.specs.Steps.{Seated, after_post, after_take, after_split, after_join, device_view, spent_view}
 use Rattle.agc_latch.specs.Tellings.{IsLatchState, Posted, Taken}
-use Rattle.agc_latch.specs.Laws.{PostKeeps, TakeKeeps, SplitKeeps, JoinKeeps, TakesInTurn, TakesOnlyPosted, IsBounded}
+use Rattle.agc_latch.specs.Laws.{BeginsAtZero, PostKeeps, TakeKeeps, SplitKeeps, JoinKeeps, TakesInTurn, TakesOnlyPosted, IsBounded}
 use Rattle.agc_latch.proofs.Totals.{total-append, total-set, terms_le, total_alone, total_below, sum_raised, raised_here, raised_else, one_le_sum, added_at, length_added, sum_added}
 
 pub word_inside : (line : Line) → word_of line < 3
@@ -82,6 +82,11 @@ room words views i inside k =
 
 pub takes_only_posted : TakesOnlyPosted
 takes_only_posted words views i k inside = let l = k.lines i inside in omega arith
+
+pub begins_at_zero : BeginsAtZero
+begins_at_zero words Timer k = let l = k.lines 0 (omega arith) in omega arith
+begins_at_zero words Key k = let l = k.lines 1 (omega arith) in omega arith
+begins_at_zero words Radar k = let l = k.lines 2 (omega arith) in omega arith
 
 pub is_bounded : IsBounded
 is_bounded words views i k inside =

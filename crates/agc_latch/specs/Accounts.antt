@@ -5,7 +5,7 @@ use Rattle.std.specs.Prelude.{Option, Some, None, IfSome}
 use Rattle.atomic_table.specs.Seated.{TableId}
 use Rattle.agc_plan.specs.declared.line.Line.{Line}
 use Rattle.agc_latch.specs.Lines.{on, zeros}
-use Rattle.agc_latch.specs.Ends.{Posting, Taking, new_taker}
+use Rattle.agc_latch.specs.Ends.{Posting, Taking}
 
 -- the taker, if there is one; how many devices were given out in all; and per line the pulses that
 -- are applied, that are owed, and that were posted on the latches that were settled, and how far
@@ -22,9 +22,9 @@ abbrev pub no_accounts : LineAccounts
 no_accounts = record
     { taker = None; devices = 0; applied = zeros; owed = zeros; begun = zeros; settled = zeros }
 
--- the accounts with the taker of a latch, which is new
-abbrev pub with_taker : TableId → LineAccounts → LineAccounts
-with_taker latch a = record a { taker = Some (new_taker latch) }
+-- the accounts with a taker
+abbrev pub with_taker : Taking → LineAccounts → LineAccounts
+with_taker taker a = record a { taker = Some taker }
 
 -- which latch the taker is of, if there is a taker
 abbrev pub latch_of : Option Taking → Option TableId
@@ -36,7 +36,7 @@ abbrev pub given_of : Option Taking → ℕ
 given_of None = 0
 given_of (Some t) = t.given
 
--- what the taker took on a line: without one, nothing
+-- the pulses that the taker took on a line: without one, none
 abbrev pub taken_on : Line → Option Taking → ℕ
 taken_on line None = 0
 taken_on line (Some t) = on line t.taken
@@ -55,7 +55,7 @@ IsTakenOnce old now = IfSome old
 abbrev pub IsOf : TableId → Option Taking → Type 0
 IsOf latch taker = IfSome (latch_of taker) (λ l. l ≡ latch)
 
--- what these devices posted on a line
+-- the pulses that these devices posted on a line
 abbrev pub posted_by : Line → List Posting → ℕ
 posted_by line devices = sum_by (λ (d : Posting). on line d.posted) devices
 
@@ -65,9 +65,9 @@ abbrev pub IsBalanced : LineAccounts → Type 0
 IsBalanced a = (line : Line)
     → on line a.applied + on line a.owed ≡ on line a.settled + taken_on line a.taker
 
--- what the accounts keep: they are balanced, at most 64 devices were given out in all, no line has
--- more pulses than these may post, no pulse is begun where none is owed, and fewer than four of its
--- requests were served
+-- the rule of the accounts: they are balanced, at most 64 devices were given out in all, no line
+-- has more pulses than these may post, no pulse is begun where none is owed, and fewer than four of
+-- its requests were served
 pub record IsKept (a : LineAccounts) : Type 0 where
   pub balanced : IsBalanced a
   pub most : a.devices ≤ 64
@@ -83,6 +83,7 @@ pub record Gives (old now : LineAccounts) : Type 0 where
   pub given : given_of now.taker ≡ given_of old.taker + 1
   pub latch : latch_of now.taker ≡ latch_of old.taker
   pub taken : (line : Line) → taken_on line now.taker ≡ taken_on line old.taker
+  pub takes : (line : Line) → takes_on line now.taker ≡ takes_on line old.taker
   pub applied : now.applied ≡ old.applied
   pub owed : now.owed ≡ old.owed
   pub begun : now.begun ≡ old.begun

@@ -1,4 +1,4 @@
--- What contracts see of a device and of a taker.
+-- Devices and takers, as contracts see them.
 use Rattle.std.specs.Prelude.{◌≡◌, ℕ, ◌+◌, List, [], sum}
 use Rattle.atomic_table.specs.Seated.{TableId}
 use Rattle.agc_latch.specs.declared.views.Role.TheVariants.{Posts}
@@ -21,8 +21,8 @@ pub record Taking : Type 0 where
   pub takes : List ℕ
   pub given : ℕ
 
--- what a device holds: a device's seat, which has posted what the device counts; so much is left of
--- what it may post
+-- a device: its seat has posted as many pulses as the device counts, and this many are left of
+-- those that it may post
 pub record IsDevice (me : Seated) (posts rest : ℕ) (counts : List ℕ) : Type 0 where
   pub role : me.0.role ≡ Posts
   pub slots : me.1 ≡ []

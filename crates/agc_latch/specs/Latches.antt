@@ -57,8 +57,7 @@ FitsRole Takes v = IsInTurn v.takes
 FitsRole Posts v = (v.seats ≡ 1) × HasTakenNothing v
 FitsRole Spent v = (v.seats ≡ 0) × HasTakenNothing v
 
--- what holds of each view by itself: three lines, and no more than 4,294,967,295 posts for each
--- seat
+-- the rule of each view by itself: three lines, and no more than 4,294,967,295 posts for each seat
 pub record Fits (v : View) : Type 0 where
   pub posted_wide : length v.posted ≡ 3
   pub taken_wide : length v.taken ≡ 3

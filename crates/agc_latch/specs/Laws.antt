@@ -1,4 +1,4 @@
--- What the latch's rule says of each kind of step.
+-- The latch's rule for each kind of step.
 use Rattle.std.specs.Prelude.{◌≡◌, ◌≢◌, ℕ, ◌+◌, ◌*◌, ◌<◌, ◌≤◌, List, [], ◌∷◌, ◌++◌, slice_index}
 use Rattle.std.specs.Prelude.{slice_set, sum}
 use mathlib.Core.Option.{some}
@@ -10,7 +10,11 @@ use Rattle.agc_plan.specs.Pulses.{word_of}
 use Rattle.agc_latch.specs.Lines.{on}
 use Rattle.agc_latch.specs.Latches.{IsLatch, IsInTurn, IsTurnOf, total, posted_at, taken_at}
 use Rattle.agc_latch.specs.Steps.{after_post, after_take, after_split, after_join, device_view}
-use Rattle.agc_latch.specs.Steps.{spent_view}
+use Rattle.agc_latch.specs.Steps.{first_view, spent_view}
+
+-- where no view is there but a new taker's, each word is 0
+abbrev pub BeginsAtZero : Type 0
+BeginsAtZero = (words : List ℕ) (line : Line) → IsLatch words (first_view ∷ []) → on line words ≡ 0
 
 -- a device that has posted less than 4,294,967,295 pulses posts one on line i: the word grows by 1
 abbrev pub PostKeeps : Type 0

@@ -1,13 +1,24 @@
--- The four kinds of step: how each changes its view.
+-- The views of new seats, and the four kinds of step: how each changes its view.
 use Rattle.std.specs.Prelude.{ℕ, ◌+◌}
 use Rattle.atomic_table.specs.Table.{Me}
 use Rattle.agc_latch.specs.declared.views.View.{View}
-use Rattle.agc_latch.specs.declared.views.Role.TheVariants.{Posts, Spent}
+use Rattle.agc_latch.specs.declared.views.Role.TheVariants.{Takes, Posts, Spent}
 use Rattle.agc_latch.specs.Lines.{added, raised, zeros}
 
 -- a seat's view, with the slots that it holds, of which this table has none
 abbrev pub Seated : Type 0
 Seated = Me (Unit {0}) View
+
+-- the taker's view when the latch is made
+abbrev pub first_view : View
+first_view = record {
+  role = Takes;
+  posted = zeros;
+  taken = zeros;
+  takes = zeros;
+  seats = 0;
+  given = 0;
+}
 
 -- a new device's view
 abbrev pub device_view : View

@@ -2,31 +2,18 @@
 use Rattle.std.specs.Prelude.{◌≡◌, ℕ, ◌+◌, ◌*◌, ◌≤◌, slice_index}
 use Rattle.atomic_table.specs.Table.{State, Step}
 use Rattle.agc_latch.specs.declared.views.View.{View}
-use Rattle.agc_latch.specs.declared.views.Role.TheVariants.{Takes}
-use Rattle.agc_latch.specs.Lines.{zeros}
 use Rattle.agc_latch.specs.Latches.{IsLatch}
 use Rattle.agc_latch.specs.Steps.{Seated, after_post, after_take}
 
 abbrev pub IsLatchState : State (Unit {0}) View → Type 0
 IsLatchState s = IsLatch s.words s.views
 
--- the taker's view when the latch is made
-abbrev pub first_view : View
-first_view = record {
-  role = Takes;
-  posted = zeros;
-  taken = zeros;
-  takes = zeros;
-  seats = 0;
-  given = 0;
-}
-
--- what a post tells: the device's count of this line grew by 1
+-- after a post: the device's count of this line grew by 1
 abbrev pub Posted : Step (Unit {0}) → Seated → ℕ → Seated → Type 0
 Posted s v n w = w ≡ (after_post s.word v.0, v.1)
 
--- What a take tells: the line was taken once more, with what was found. No more is taken than the
--- devices that were given out may post; where all of them came back, all that they posted is taken
+-- after a take: the line was taken once more, with what was found. No more is taken than the
+-- devices that were given out may post; once all of them came back, all that they posted is taken
 abbrev pub Taken : Step (Unit {0}) → Seated → ℕ → Seated → Type 0
 Taken s v n w =
     (w ≡ (after_take s.word n v.0, v.1))

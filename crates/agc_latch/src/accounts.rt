@@ -29,7 +29,6 @@ fn sums(some: [u64; 3], more: [u64; 3]) -> [u64; 3]
 ///
 /// Of all accounts it holds that on each line what is applied and what is owed are the pulses of
 /// settled latches and those that the taker took, and that none is begun where none is owed.
-/// Source: profile.
 #[derive(Drop)]
 pub struct Accounts {
     taker: Option<AttachedTaker>,
@@ -66,7 +65,6 @@ impl Model for Accounts {
 
 impl Accounts {
     /// Accounts without a taker, under which no device was given out, and on which no pulse is.
-    /// Source: profile.
     pub fn new() -> Accounts
         ensures { result ≡ no_accounts }
     {
@@ -81,7 +79,7 @@ impl Accounts {
     }
 
     /// Attaches a taker; where there is one already, the new one is handed back and nothing
-    /// changes. Source: profile.
+    /// changes.
     pub fn attach(&mut self, taker: Taker) -> Option<Taker>
         ensures none { IsNone result ↔ (self.old.taker ≡ None) }
         ensures attached { IfNone result (self.new ≡ with_taker taker self.old) }
@@ -95,7 +93,7 @@ impl Accounts {
     }
 
     /// A new device of the taker's latch, which may post so many pulses; none where there is no
-    /// taker, or where 64 devices were given out. Source: profile.
+    /// taker, or where 64 devices were given out.
     pub fn device(&mut self, latch: &Latch, posts: u32) -> Option<Device>
         requires { IsOf latch.now self.old.taker }
         ensures none { IsNone result ↔ ((self.old.taker ≡ None) ⊎ (self.old.devices ≡ 64)) }
@@ -117,7 +115,7 @@ impl Accounts {
     /// Takes what was posted, each line once, and answers how many pulses per line: the timer's,
     /// the keyboard's, the radar's, which are taken in this order (the latch's rule,
     /// [`steps_keep_the_rule`](crate::laws::steps_keep_the_rule)). They are owed from now on.
-    /// Without a taker it takes nothing; one that there is has to be the latch's. Source: profile.
+    /// Without a taker it takes nothing; one that there is has to be the latch's.
     pub fn collect(&mut self, latch: &Latch) -> [u64; 3]
         requires { IsOf latch.now self.old.taker }
         ensures { Collects result self.old self.new }
@@ -130,15 +128,14 @@ impl Accounts {
         found
     }
 
-    /// How many pulses of a line are owed. Source: profile.
+    /// How many pulses of a line are owed.
     pub fn owed_on(&self, line: Line) -> u64
         ensures { result ≡ on line self.now.owed }
     {
         self.owed[line.word()]
     }
 
-    /// So many pulses of a line that were owed are applied from now on, and the next one isn't
-    /// begun. Source: profile.
+    /// Applies this many pulses of a line that were owed; the next one isn't begun.
     pub fn apply(&mut self, line: Line, pulses: u64)
         requires { pulses ≤ on line self.old.owed }
         ensures applies { Applies line pulses self.old self.new }
@@ -151,7 +148,6 @@ impl Accounts {
     }
 
     /// How many of the requests for which the first owed pulse of a line asks were served, 0 to 3.
-    /// Source: profile.
     pub fn begun_on(&self, line: Line) -> u64
         ensures value { result ≡ on line self.now.begun }
         ensures range { result < 4 }
@@ -160,7 +156,7 @@ impl Accounts {
     }
 
     /// One more of these requests was served, and the pulse, which has to be owed, still asks for
-    /// others: so fewer than three were served before. Source: profile.
+    /// others: so fewer than three were served before.
     pub fn begin(&mut self, line: Line)
         requires owed { 1 ≤ on line self.old.owed }
         requires few { on line self.old.begun < 3 }
@@ -170,8 +166,7 @@ impl Accounts {
         self.begun[word] += 1;
     }
 
-    /// The pulses that were applied, per line: the timer's, the keyboard's, the radar's. Source:
-    /// profile.
+    /// The pulses that were applied, per line: the timer's, the keyboard's, the radar's.
     pub fn applied(&self) -> [u64; 3]
         ensures applied { result ≡ self.now.applied }
         ensures kept { IsKept self.now }
@@ -179,7 +174,7 @@ impl Accounts {
         self.applied
     }
 
-    /// The pulses that were taken and not yet applied, per line. Source: profile.
+    /// The pulses that were taken and not yet applied, per line.
     pub fn owed(&self) -> [u64; 3]
         ensures owed { result ≡ self.now.owed }
         ensures kept { IsKept self.now }
@@ -199,7 +194,7 @@ impl Accounts {
 
     /// Settles the latch: takes the devices back, takes each line once more into what is owed, and
     /// closes the latch. The accounts have no taker then. The taker and the devices have to be the
-    /// latch's. Source: profile.
+    /// latch's.
     ///
     /// # Errors
     ///
@@ -233,23 +228,24 @@ impl Accounts {
     }
 }
 
-/// What became of the pulses of all latches that were settled, per line. Source: profile.
+/// The accounts of all latches that were settled: per line, the pulses that were posted, applied
+/// and are owed.
 #[derive(Clone, Copy)]
 pub struct Settled {
-    /// How many were posted. Source: profile.
+    /// How many were posted.
     pub posted: [u64; 3],
-    /// How many of these were applied. Source: profile.
+    /// How many of these were applied.
     pub applied: [u64; 3],
-    /// How many are still owed. Source: profile.
+    /// How many are still owed.
     pub owed: [u64; 3],
 }
 
-/// What [`Accounts::settle`] hands back where it refuses: there is no taker, or not as many devices
-/// came as were given out under it. Source: profile.
+/// The parts that [`Accounts::settle`] hands back if it refuses: there is no taker, or not as many
+/// devices came as were given out under it.
 #[derive(Drop)]
 pub struct Unjoined {
-    /// The latch as it was. Source: profile.
+    /// The latch as it was.
     pub latch: Latch,
-    /// The devices as they were, in their order. Source: profile.
+    /// The devices as they were, in their order.
     pub devices: Vec<Device>,
 }

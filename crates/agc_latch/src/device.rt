@@ -11,7 +11,7 @@ use atomic_table::Seat;
 use std::marker::Model;
 use thiserror::Error;
 
-/// A device has posted as often as it may. Source: profile.
+/// A device has posted as often as it may.
 #[derive(Clone, Copy, PartialEq, Eq, Debug, Error)]
 #[error("the device has posted as often as it may")]
 pub struct PostSpent;
@@ -20,7 +20,7 @@ pub struct PostSpent;
 /// what it posted per line.
 ///
 /// What it posted is what its seat at the latch has posted, which only a post of this device
-/// changes. Source: profile.
+/// changes.
 #[derive(Drop)]
 pub struct Device {
     seat: Seat<(), View>,
@@ -73,7 +73,7 @@ impl Device {
     }
 
     /// Posts one pulse on a line, by one atomic step. It takes no lock and no memory, and waits for
-    /// nobody. Source: profile.
+    /// nobody.
     ///
     /// # Errors
     ///
@@ -98,8 +98,7 @@ impl Device {
         Ok(())
     }
 
-    /// The pulses that it posted, per line: the timer's, the keyboard's, the radar's. Source:
-    /// profile.
+    /// The pulses that it posted, per line: the timer's, the keyboard's, the radar's.
     pub fn posted(&self) -> [u64; 3]
         ensures { result ≡ self.now.posted }
     {

@@ -1,4 +1,5 @@
 ghost use Rattle.std.specs.Prelude.{◌≡◌, IfOk};
+ghost use Rattle.agc_latch.specs.Ends.{new_taker};
 
 use crate::steps::Rule;
 use crate::taker::Taker;
@@ -10,8 +11,7 @@ use std::marker::Model;
 
 /// Three words, one for each line. Contracts see which latch it is.
 ///
-/// Between any two steps its words and the views of its seats meet the latch's rule. Source:
-/// profile.
+/// Between any two steps its words and the views of its seats meet the latch's rule.
 #[derive(Drop)]
 pub struct Latch {
     pub(crate) table: Table<(), View, (), Rule, Global>,
@@ -31,13 +31,14 @@ impl Model for Latch {
 
 impl Latch {
     /// A latch on which nothing was posted, and its taker, which gave out no device and took
-    /// nothing. Source: profile.
+    /// nothing. All its words are 0, since no other view is there yet
+    /// ([`steps_keep_the_rule`](crate::laws::steps_keep_the_rule)).
     ///
     /// # Errors
     ///
     /// `NoMemory`.
     pub fn new(alloc: Global) -> Result<(Latch, Taker), NoMemory>
-        ensures { IfOk result (λ r. r.1 ≡ r.0) }
+        ensures { IfOk result (λ r. r.1 ≡ new_taker r.0) }
     {
         let (table, seat) = Table::of_words(alloc, &[0, 0, 0], &())?;
         Ok((Latch { table }, Taker::of_seat(seat)))

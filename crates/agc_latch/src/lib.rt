@@ -4,7 +4,7 @@
 //! A [`Latch`] has a word for each [`Line`]: the timer's, the keyboard's and the radar's. A
 //! [`Device`] posts a pulse by one atomic step, and the one [`Taker`] takes what was posted.
 //! [`Accounts`] hold the taker: they count per line what is applied and what is owed, and in the
-//! end, once all devices are back, what was posted. Source: profile.
+//! end, once all devices are back, what was posted.
 #![tactic(auto)]
 
 mod accounts;

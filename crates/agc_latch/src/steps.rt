@@ -5,7 +5,8 @@ use atomic_table::{Join, Play, Split, TableRule};
 pub struct Rule;
 
 impl TableRule<(), View, ()> for Rule {
-    ghost use Rattle.agc_latch.specs.Tellings.{IsLatchState, first_view};
+    ghost use Rattle.agc_latch.specs.Steps.{first_view};
+    ghost use Rattle.agc_latch.specs.Tellings.{IsLatchState};
 
     ghost holds = { λ _. IsLatchState };
 

@@ -5,7 +5,7 @@ ghost use Rattle.agc_latch.specs.Holders.{IsRoundDone, with_one_given};
 ghost use Rattle.agc_latch.specs.Latches.{IsTurnOf};
 ghost use Rattle.agc_latch.specs.Lines.{added, on, raised};
 ghost use Rattle.agc_plan.specs.Pulses.{word_of};
-ghost use Rattle.agc_latch.specs.Tellings.{first_view};
+ghost use Rattle.agc_latch.specs.Steps.{first_view};
 ghost use Rattle.agc_plan.specs.declared.line.Line.{Line};
 
 use crate::device::Device;
@@ -218,7 +218,7 @@ impl AttachedTaker {
 }
 
 /// Takes what devices posted. There is one for each latch. As long as nobody owns it with accounts,
-/// it gave out no device and took nothing. Contracts see which latch it is of. Source: profile.
+/// it gave out no device and took nothing.
 #[derive(Drop)]
 pub struct Taker {
     attached: AttachedTaker,
@@ -226,12 +226,11 @@ pub struct Taker {
 
 impl Model for Taker {
     ghost use Rattle.std.specs.Prelude.{◌≡◌};
-    ghost use Rattle.atomic_table.specs.Seated.{TableId};
-    ghost use Rattle.agc_latch.specs.Ends.{new_taker};
+    ghost use Rattle.agc_latch.specs.Ends.{Taking, new_taker};
 
-    ghost Value = { TableId };
+    ghost Value = { Taking };
 
-    ghost view = { λ t. t.attached.latch };
+    ghost view = { λ t. t.attached };
 
     ghost invariant = { λ t. t.attached ≡ new_taker t.attached.latch };
 }
@@ -240,7 +239,7 @@ impl Taker {
     // The taker that has the first seat of a latch.
     pub(crate) fn of_seat(seat: Seat<(), View>) -> Taker
         requires { seat.me ≡ (first_view, []) }
-        ensures { result ≡ seat.table_id }
+        ensures { result ≡ new_taker seat.table_id }
     {
         let seat = TakerSeat { seat };
         Taker {
@@ -250,7 +249,8 @@ impl Taker {
 
     // The taker, for its owner.
     pub(crate) fn into_attached(self) -> AttachedTaker
-        ensures { result ≡ new_taker self }
+        ensures taker { result ≡ self }
+        ensures new { self ≡ new_taker self.latch }
     {
         let Taker { attached } = self;
         attached

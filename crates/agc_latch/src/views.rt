@@ -1,4 +1,4 @@
-/// What the holder of a seat at the latch is.
+/// The role of a seat at the latch.
 pub enum Role {
     /// The one who takes.
     Takes,
@@ -8,7 +8,7 @@ pub enum Role {
     Spent,
 }
 
-/// What a seat at the latch knows. No value of it is made: it stands in the rule alone.
+/// The knowledge of a seat at the latch. No value of it is made: only the rule names it.
 pub struct View {
     /// Who holds the seat.
     pub role: Role,

@@ -8,7 +8,6 @@ use Rattle.agc_plan.specs.Tasks.{Waiting, StandsFor}
 use Rattle.agc_exec.specs.Blocks.{block_in, blocks_of}
 use Rattle.agc_exec.specs.Sets.{slots_of}
 use Rattle.agc_exec.specs.Image.{minus_zero, held_of, sets_of, Each, IsLawfulBlock, IsTidyBlock, jobs_in, entries_in}
-use Rattle.agc_exec.specs.Stages.{use_word}
 use Rattle.agc_exec.specs.Image as cores
 use Rattle.agc_exec.proofs.Decoding.{held_of-free, held_at, length-sets}
 use Rattle.agc_exec.proofs.Reading.{length-blocks_of, get-blocks_of, get-block_in, block_in-same}

@@ -34,11 +34,11 @@ pub record Machined : Type 0 where
 abbrev pub plain_of : Machined → Plain
 plain_of m = reached m.plan m.base m.log
 
--- and the core sets of its jobs
+-- the core sets of its jobs
 abbrev pub places_of : Machined → List ℕ
 places_of m = (placed m.plan m.base m.log).places
 
--- what holds of every machine; that its plan has no fault, the type of plans keeps
+-- every machine is lawful; that its plan has no fault is kept by the type of plans
 pub record IsLawful (m : Machined) : Type 0 where
   pub base : IsLawfulBase m.base
   pub least : 1 ≤ m.limit
@@ -70,7 +70,7 @@ refusal_of m asked =
 abbrev pub result_of : Option Refusal → Reply → Result Reply Refusal
 result_of refusal reply = option_map_or Err refusal (Ok reply)
 
--- what the request is answered
+-- the answer to a request
 abbrev pub answer_of : Machined → Request → Result Reply Refusal
 answer_of m asked = option_map_or Err (refusal_of m asked) (Ok (stepped m asked).reply)
 

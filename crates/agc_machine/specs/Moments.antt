@@ -19,9 +19,9 @@ pub record Acting : Type 0 where
   pub fired : List Task
   pub number : ℕ
 
--- what this machine does for this request, before an era begins: its words are lawful and tidy,
--- and where no era begins no task is due; they stand for what the model does, with the jobs in the
--- core sets of their placement
+-- the moment of this machine after it has acted on this request, before an era begins: its words
+-- are lawful and tidy, and if no era begins no task is due; they stand for the model's state, with
+-- the jobs in the core sets of their placement
 pub record IsMoment (m : Machined) (asked : Request) (moment : Acting) : Type 0 where
   pub sets : sets_in moment.words ≡ m.plan.sets
   pub tables : AreLawful moment.words

@@ -1,4 +1,4 @@
--- What was said to a request.
+-- An answer, as callers see it.
 use Rattle.std.specs.Prelude.{List, Result}
 use Rattle.agc_plan.specs.declared.request.Request.{Request}
 use Rattle.agc_plan.specs.declared.request.Task.{Task}

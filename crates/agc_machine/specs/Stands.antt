@@ -41,7 +41,7 @@ pub record IsSound (words : List ℕ) : Type 0 where
   pub waits : table.IsLawfulTable words
   pub phases : phases.IsLawfulTable words
 
--- and no task is due
+-- the words are sound, and no task is due
 pub record IsReady (words : List ℕ) : Type 0 where
   pub sound : IsSound words
   pub none_due : due_now (waits_of words) ≡ 0
@@ -52,7 +52,7 @@ pub record Stands (words : List ℕ) (work : Work) (places : List ℕ) : Type 0 
   pub places_is : places ≡ entries_in words
   pub agenda : tasks.StandsFor (waits_of words) work.agenda
 
--- and phases and codes are these
+-- the words stand for this state: jobs and tasks, and phases and codes
 pub record StandsFor (words : List ℕ) (plain : Plain) (places : List ℕ) : Type 0 where
   pub work : Stands words plain.work places
   pub base_is : plain.base ≡ base_of words
@@ -115,7 +115,7 @@ alarm_in raised = option_map (λ r. r.alarm) raised
 abbrev pub number_in : Option Raised → ℕ
 number_in raised = option_map_or (λ r. r.number) raised 0
 
--- as many of these actions are done where one raises an alarm, and else 0
+-- how many of these actions are done if one raises an alarm, and otherwise 0
 abbrev pub number_of : List Action → Work → ℕ
 number_of acts work =
     if is_some (all_done acts work).alarm then length (those_done acts work) else 0
@@ -135,7 +135,7 @@ abbrev pub places_fired : Rows → Work → List ℕ → List ℕ
 places_fired rows work places =
     (seated_through (fire_all rows work [] []).acts (seated_in work places)).places
 
--- what is due fires, until an action raises an alarm
+-- all tasks that are due fire, until an action raises an alarm
 pub record FiresDue (rows : Rows) (old : List ℕ) (fired : List Task)
     (alarm : Option Alarm) (number : ℕ) (new : List ℕ) : Type 0 where
   pub changes : Changes (λ work. (fire_all rows work [] []).work) (places_fired rows) old new
@@ -165,7 +165,7 @@ places_ticked rows work places = places_fired rows (later_work work) places
 abbrev pub with_job : Option JobStart → Work → Work
 with_job job work = record work { jobs = jobs_begun job work.jobs }
 
--- and comes to the first free set
+-- the core sets when a phase's job has come to the first free set
 abbrev pub places_with_job : Option JobStart → Work → List ℕ → List ℕ
 places_with_job job work places =
     option_map_or (λ job. (seated_new (started job work.jobs) places).places) job places
@@ -213,7 +213,7 @@ pub record Steps (words : List ℕ) (reply : Reply) (stepped : Stepped) (places 
     pub state : StandsFor words stepped.plain places
     pub reply_is : reply ≡ stepped.reply
 
--- what a request does, before an era begins with it
+-- the effect of a request, before an era begins with it
 pub record Acts (plan : Planned) (asked : Request) (old : List ℕ) (reply : Reply) (new : List ℕ)
     : Type 0 where
   pub sound : IsSound new
@@ -221,7 +221,7 @@ pub record Acts (plan : Planned) (asked : Request) (old : List ℕ) (reply : Rep
   pub steps : (plain : Plain) (places : List ℕ) → StandsFor old plain places
       → Steps new reply (acted plan asked plain) (places_acted plan asked plain places)
 
--- these fire in it, whatever the words stand for
+-- these tasks fire in a request, whatever the words stand for
 abbrev pub FiresIn : Planned → Request → List ℕ → List Task → Type 0
 FiresIn plan asked old fired = (plain : Plain) (places : List ℕ) → StandsFor old plain places
     → fired ≡ fired_in plan asked plain

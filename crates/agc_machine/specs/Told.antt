@@ -1,4 +1,4 @@
--- What an answer tells of the totals.
+-- How an answer changes the totals.
 use Rattle.std.specs.Prelude.{◌+◌, Result, Ok, Err}
 use Rattle.std.specs.Option.{option_map_or}
 use Rattle.agc_plan.specs.declared.reply.Alarm.{Alarm}
@@ -13,7 +13,7 @@ use Rattle.agc_machine.specs.declared.totals.Totals.{Totals}
 abbrev pub nothing : Totals
 nothing = record { served = 0; a1201 = 0; a1202 = 0; a1203 = 0; restarts = 0 }
 
--- both together
+-- the sum of two totals
 abbrev pub add : Totals → Totals → Totals
 add s t =
     record { served = s.served + t.served; a1201 = s.a1201 + t.a1201; a1202 = s.a1202 + t.a1202; a1203 = s.a1203 + t.a1203; restarts = s.restarts + t.restarts }
@@ -24,14 +24,14 @@ alarm_told A1201 = record { served = 1; a1201 = 1; a1202 = 0; a1203 = 0; restart
 alarm_told A1202 = record { served = 1; a1201 = 0; a1202 = 1; a1203 = 0; restarts = 1 }
 alarm_told A1203 = record { served = 1; a1201 = 0; a1202 = 0; a1203 = 1; restarts = 1 }
 
--- what a reply tells: one served, and where an era began with it, one restart
+-- the totals of a reply: one served, and one restart if an era began with it
 abbrev pub reply_told : Reply → Totals
 reply_told Restarted = record { served = 1; a1201 = 0; a1202 = 0; a1203 = 0; restarts = 1 }
 reply_told reply =
     let quiet : Totals = record { served = 1; a1201 = 0; a1202 = 0; a1203 = 0; restarts = 0 } in
     option_map_or alarm_told (alarm_of reply) quiet
 
--- what an answer tells: a refusal tells nothing
+-- the totals of an answer: none for a refusal
 abbrev pub told : Result Reply Refusal → Totals
 told (Ok reply) = reply_told reply
 told (Err refusal) = nothing

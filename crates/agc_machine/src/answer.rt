@@ -4,7 +4,7 @@ use agc_plan::{Fired, Reply, Request};
 use std::marker::Model;
 use thiserror::Error;
 
-/// Why a request was not served. It then changed nothing. Source: profile.
+/// Why a request was not served. It then changed nothing.
 #[derive(Clone, Copy, PartialEq, Eq, Debug, Error)]
 pub enum Refusal {
     /// As many requests were served as the allowance says.
@@ -15,8 +15,8 @@ pub enum Refusal {
     LogFull,
 }
 
-/// What `Machine::apply` answers, which alone makes one: the request, the reply to it or a refusal,
-/// and what fired. It can't be copied or cloned. Contracts see these three. Source: profile.
+/// The answer of `Machine::apply`, which alone makes one: the request, the reply to it or a
+/// refusal, and the tasks that fired. It can't be copied or cloned. Contracts see these three.
 #[derive(Drop)]
 pub struct Answer {
     request: Request,
@@ -44,28 +44,28 @@ impl Answer {
         }
     }
 
-    /// What was asked. Source: profile.
+    /// The request that was answered.
     pub fn request(&self) -> Request
         ensures { result ≡ self.now.request }
     {
         self.request
     }
 
-    /// Whether the request was refused. Source: profile.
+    /// Whether the request was refused.
     pub fn is_refused(&self) -> bool
         ensures { result ≡ is_err self.now.outcome }
     {
         self.result.is_err()
     }
 
-    /// The tasks that fired, in order: none but in a tick. Source: profile.
+    /// The tasks that fired, in order: none but in a tick.
     pub fn fired(&self) -> &Fired
         ensures { result.now ≡ self.now.fired }
     {
         &self.fired
     }
 
-    /// The reply, or why there is none. Source: profile.
+    /// The reply, or why there is none.
     ///
     /// # Errors
     ///

@@ -1,5 +1,5 @@
-//! What a caller is told of full tables, as laws over a machine's answers: each is the contract of
-//! a function that does nothing. `ask`, `apply` and the desk's `serve` answer by `answer_of`.
+//! Laws of a machine's answers about full tables: each is the contract of a function that does
+//! nothing. `ask`, `apply` and the desk's `serve` answer by `answer_of`.
 
 ghost use Rattle.std.specs.Prelude.{◌≡◌, ◌↔◌, Option, None, Ok, Err, []};
 ghost use Rattle.agc_plan.specs.declared.reply.Alarm.{Alarm};

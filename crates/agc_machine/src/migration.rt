@@ -32,7 +32,7 @@ fn is_lawful_image(e: &Erasable) -> bool
 /// The words of eight core sets that stand for what these of seven stand for. Places 0 to 131 are
 /// copied; at 132 to 143 stands core set 7, free: 77777 in PRIORITY, 00000 in its other words. It
 /// takes no memory. None exactly where the words aren't lawful between requests: where `is_lawful`
-/// of `agc_exec`, `agc_wait` or `agc_phase` says so, or a task is due. Source: profile.
+/// of `agc_exec`, `agc_wait` or `agc_phase` says so, or a task is due.
 pub fn migrate(words: &[Word; 132]) -> Option<[Word; 144]>
     ensures lawful { IsSome result ↔ IsLawfulImage words.now }
     ensures migrated { IfSome result (λ new. Migrates words.now new) }

@@ -1,20 +1,20 @@
-// What a request does to a copy of the words, before an era begins with it.
-ghost use Rattle.std.specs.Prelude.{◌≡◌, [], false};
+// The effect of a request before an era begins with it.
+ghost use Rattle.std.specs.Prelude.{◌≡◌, [], false, true};
 ghost use Rattle.agc_word.specs.Layout.{sets_in};
 ghost use Rattle.agc_plan.specs.Plans.{planned_with};
 ghost use Rattle.agc_plan.specs.Steps.{begins};
 ghost use Rattle.agc_wait.specs.Table.{waits_of};
 ghost use Rattle.agc_wait.specs.Waits.{due_now};
-ghost use Rattle.agc_machine.specs.Stands.{IsReady, Acts, FiresIn, RaisesIn};
+ghost use Rattle.agc_machine.specs.Stands.{IsReady, Acts, FiresIn, RaisesIn, StepsTo};
 
-use crate::step::act;
+use crate::step::{act, begin_after};
 use crate::tick::{alarm_in, number_in, tick};
 use agc_plan::{Fired, Plans, Reply, Request};
 use agc_word::{Erasable, Sets};
 use std::marker::Model;
 
-/// What the words hold when a request has been acted on and no era has begun with it, what is
-/// replied, what fired, and which action raised an alarm. Contracts see all four. Source: profile.
+/// The words after a request was acted on and before an era has begun with it, the reply, the tasks
+/// that fired, and which action raised an alarm. Contracts see all four.
 #[derive(Drop)]
 pub struct Moment {
     erasable: Erasable,
@@ -37,21 +37,21 @@ impl Model for Moment {
 }
 
 impl Moment {
-    /// The words, by place. Source: profile.
+    /// The words, by place.
     pub fn words(&self) -> &Erasable
         ensures { result.now ≡ self.now.words }
     {
         &self.erasable
     }
 
-    /// What is replied. Source: profile.
+    /// The reply to the request.
     pub fn reply(&self) -> &Reply
         ensures { result.now ≡ self.now.reply }
     {
         &self.reply
     }
 
-    /// The tasks that fired, in order. Source: profile.
+    /// The tasks that fired, in order.
     pub fn fired(&self) -> &Fired
         ensures { result.now ≡ self.now.fired }
     {
@@ -59,15 +59,23 @@ impl Moment {
     }
 
     /// Where an alarm came inside a tick: which of the actions of the task that fired last raised
-    /// it, counted from 1. Else 0. Source: profile.
+    /// it, counted from 1. Else 0.
     pub fn number(&self) -> usize
         ensures { result ≡ self.now.number }
     {
         self.number
     }
+
+    /// Nothing fired, and no action raised an alarm. The words stay.
+    pub(crate) fn clear(&mut self)
+        ensures fired { self.new.fired ≡ [] }
+        ensures number { self.new.number ≡ 0 }
+    {
+        self.fired.clear();
+        self.number = 0;
+    }
 }
 
-/// The same words.
 fn copy_of(e: &Erasable) -> Erasable
     ensures { result ≡ e.now }
 {
@@ -83,7 +91,7 @@ fn copy_of(e: &Erasable) -> Erasable
     copy
 }
 
-/// What a request does, before an era begins with it, and which action raised an alarm inside a
+/// The effect of a request, before an era begins with it, and which action raised an alarm inside a
 /// tick.
 pub(crate) fn act_told<P: Plans>(
     plan: &P,
@@ -130,4 +138,34 @@ pub(crate) fn moment_of<P: Plans>(plan: &P, e: &Erasable, request: &Request) -> 
         fired,
         number,
     }
+}
+
+/// One step, as `step`. If an era begins with it, the moment before that is kept. What fires goes
+/// into an empty list.
+pub(crate) fn step_with_snapshot<P: Plans>(
+    plan: &P,
+    e: &mut Erasable,
+    request: &Request,
+    moment: &mut Moment,
+) -> Reply
+    requires ready { IsReady e.old }
+    requires none { moment.old.fired ≡ [] }
+    ensures steps { StepsTo (planned_with (P.written plan.now) (sets_in e.old)) request.now e.old
+        result e.new }
+    ensures fired { FiresIn (planned_with (P.written plan.now) (sets_in e.old)) request.now e.old
+        moment.new.fired }
+    ensures raised { RaisesIn (planned_with (P.written plan.now) (sets_in e.old)) request.now e.old
+        moment.new.number }
+    ensures reply { moment.new.reply ≡ result }
+    ensures acts { begins result ≡ true → Acts (planned_with (P.written plan.now) (sets_in e.old))
+        request.now e.old result moment.new.words }
+{
+    let (reply, number) = act_told(plan, e, request, &mut moment.fired);
+    moment.reply = reply;
+    moment.number = number;
+    if reply.begins() {
+        moment.erasable = copy_of(e);
+        begin_after(plan, reply.alarm(), e);
+    }
+    reply
 }

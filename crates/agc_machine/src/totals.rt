@@ -4,18 +4,18 @@ ghost use Rattle.agc_machine.specs.Told.{nothing, add, reply_told};
 use agc_plan::Alarm;
 
 /// Counts of served requests: a machine's since it was made, or those whose answers the holder of a
-/// share was told; each at most the allowance. Source: profile.
+/// share was told; each at most the allowance.
 #[derive(Clone, Copy, PartialEq, Eq)]
 pub struct Totals {
     /// All requests that were served. Refused ones are not counted.
     pub served: u64,
-    /// Those that raised alarm 1201, no VAC area was free, by themselves or inside a tick.
+    /// Requests that raised alarm 1201, no VAC area was free, by themselves or inside a tick.
     pub a1201: u64,
-    /// Those that raised alarm 1202, no core set was free, by themselves or inside a tick.
+    /// Requests that raised alarm 1202, no core set was free, by themselves or inside a tick.
     pub a1202: u64,
-    /// Those that raised alarm 1203, the Waitlist was full.
+    /// Requests that raised alarm 1203, the Waitlist was full.
     pub a1203: u64,
-    /// Those with which an era began: an alarm, a restart or a fresh start.
+    /// Requests with which an era began: an alarm, a restart or a fresh start.
     pub restarts: u64,
 }
 

@@ -19,8 +19,8 @@ use crate::step::{begin_after, step};
 use agc_plan::{Fired, Plan, Plans, Reply, Request};
 use agc_word::Erasable;
 
-/// What a request does to the words of a machine, and the beginning of an era, if one begins with
-/// it. Nothing is refused, and nothing is stored. Source: the request's own.
+/// Does a request on the words of a machine, and begins an era, if one begins with it. Nothing is
+/// refused, and nothing is stored. Source: the request's own.
 pub fn step_words(plan: &Plan, e: &mut Erasable, request: &Request) -> Reply
     requires lawful { IsLawfulImage e.old }
     requires tidy { IsTidyImage e.old }
@@ -37,10 +37,10 @@ pub fn step_words(plan: &Plan, e: &mut Erasable, request: &Request) -> Reply
     step(plan, e, request, &mut fired)
 }
 
-/// What a request does to words of a caller's own, before an era begins with it: the reply, and
-/// which action raised an alarm inside a tick, counted from 1, else 0. The words have to be lawful
-/// and tidy, with no task due, as each step leaves them. What fired, in order, is left in the list
-/// that is lent, in place of what was there. No memory is taken. Source: the request's own.
+/// Does a request on words of a caller's own, before an era begins with it: returns the reply, and
+/// which action raised an alarm inside a tick, counted from 1, or 0. The words must be lawful and
+/// tidy, with no task due, as each step leaves them. The tasks that fired, in order, replace the
+/// contents of the list that is lent. No memory is taken. Source: the request's own.
 pub fn act_words<P: Plans>(
     plan: &P,
     e: &mut Erasable,

@@ -1,14 +1,14 @@
-//! What differs between the outcomes of two documents.
+//! The differences between the outcomes of two documents.
 use crate::columns::put_spaces;
-use crate::counted::sent;
-use crate::outcome::{JobsAt, Outcome};
+use crate::running::send_buffer;
+use crate::summary::{JobsSummary, RunSummary};
 use agc_session::RunFault;
-use agc_text::Filling::{Number, Octal, Seconds, Text};
-use agc_text::{Draft, Filling};
+use agc_text::Field::{Number, Octal, Seconds, Text};
+use agc_text::{Buffer, Field};
 use std::alloc::Global;
 use std::io::Write;
 
-/// What is compared of jobs, as `jobs` orders it.
+/// The columns of jobs that are compared, in the order of `jobs`.
 const COLUMNS: [&str; 14] = [
     "  began",
     "  ended",
@@ -26,11 +26,11 @@ const COLUMNS: [&str; 14] = [
     "  first missed",
 ];
 
-/// How wide the column of the first document is.
+/// The width of the first document's column.
 const WIDTH: usize = 12;
 
 /// Whether two values are the same.
-fn is_same(one: Filling<'_>, other: Filling<'_>) -> bool {
+fn is_same(one: Field<'_>, other: Field<'_>) -> bool {
     match (one, other) {
         (Number(one), Number(other)) => one == other,
         (Seconds(one), Seconds(other)) => one == other,
@@ -53,7 +53,7 @@ fn digits(number: u64) -> usize {
 }
 
 /// How many letters a value has.
-fn letters(value: Filling<'_>) -> usize {
+fn letters(value: Field<'_>) -> usize {
     match value {
         Number(number) => digits(number),
         Seconds(time) => digits(time / 100).saturating_add(3),
@@ -63,17 +63,17 @@ fn letters(value: Filling<'_>) -> usize {
 }
 
 /// Adds a line: a name, and the values of both documents, each at the right end of its column.
-fn put_line(draft: &mut Draft, name: &str, one: Filling<'_>, other: Filling<'_>) {
-    draft.text(name);
-    put_spaces(draft, name.len(), 24);
+fn put_line(buffer: &mut Buffer, name: &str, one: Field<'_>, other: Field<'_>) {
+    buffer.text(name);
+    put_spaces(buffer, name.len(), 24);
     for value in [one, other] {
-        put_spaces(draft, letters(value), WIDTH);
-        draft.add(value);
+        put_spaces(buffer, letters(value), WIDTH);
+        buffer.add(value);
     }
-    draft.text("\n");
+    buffer.text("\n");
 }
 
-/// What is compared of runs.
+/// The totals of runs that are compared.
 const TOTALS: [&str; 10] = [
     "seconds",
     "requests",
@@ -87,14 +87,14 @@ const TOTALS: [&str; 10] = [
     "most tasks",
 ];
 
-/// What a run has of one of them.
-fn total(outcome: &Outcome, place: usize) -> Filling<'static> {
-    let found = outcome.found;
+/// The total at a place of `TOTALS`.
+fn total(summary: &RunSummary, place: usize) -> Field<'static> {
+    let found = summary.peaks;
     match place {
-        0 => Seconds(outcome.time),
-        1 => Number(outcome.asked),
-        2 => Number(outcome.refused),
-        3 => Number(outcome.eras),
+        0 => Seconds(summary.time),
+        1 => Number(summary.asked),
+        2 => Number(summary.refused),
+        3 => Number(summary.eras),
         4 => Number(found.alarms),
         5 if found.alarms == 0 => Text("none"),
         5 => Text(found.code),
@@ -106,17 +106,17 @@ fn total(outcome: &Outcome, place: usize) -> Filling<'static> {
     }
 }
 
-/// Adds what the jobs of an address are called.
-fn put_called(draft: &mut Draft, jobs: &JobsAt) {
+/// Adds the name or address of an address's jobs.
+fn put_called(buffer: &mut Buffer, jobs: &JobsSummary) {
     let called = match &jobs.name {
         None => Octal(jobs.at),
         Some(name) => Text(name.as_str()),
     };
-    draft.put("job {}\n", &[called]);
+    buffer.put("job {}\n", &[called]);
 }
 
-/// What a column has; a dash for jobs that a document doesn't have.
-fn cell(jobs: Option<&JobsAt>, column: usize) -> Filling<'static> {
+/// The text of a column; a dash if a document doesn't have such jobs.
+fn cell(jobs: Option<&JobsSummary>, column: usize) -> Field<'static> {
     let Some(jobs) = jobs else {
         return Text("-");
     };
@@ -124,25 +124,30 @@ fn cell(jobs: Option<&JobsAt>, column: usize) -> Filling<'static> {
     cells.nth(column).copied().unwrap_or(Text("-"))
 }
 
-/// Adds the lines of jobs that differ, below what they are called.
-fn put_jobs(draft: &mut Draft, jobs: &JobsAt, one: Option<&JobsAt>, other: Option<&JobsAt>) {
+/// Adds the values of jobs that differ, below their name.
+fn put_jobs(
+    buffer: &mut Buffer,
+    jobs: &JobsSummary,
+    one: Option<&JobsSummary>,
+    other: Option<&JobsSummary>,
+) {
     let mut is_called = false;
     for (column, name) in COLUMNS.iter().enumerate() {
         let (here, there) = (cell(one, column), cell(other, column));
         if !is_same(here, there) {
             if !is_called {
-                put_called(draft, jobs);
+                put_called(buffer, jobs);
                 is_called = true;
             }
-            put_line(draft, name, here, there);
+            put_line(buffer, name, here, there);
         }
     }
 }
 
-/// Those among these jobs that are called as some of another document: where several are, those of
-/// the same address, or else the first.
-fn called_as<'a>(all: &'a [JobsAt], jobs: &JobsAt) -> Option<&'a JobsAt> {
-    let is_same = |other: &&JobsAt| other.at == jobs.at && other.is_called_as(jobs);
+/// The jobs that have the same name as those of another document: if several do, those at the same
+/// address, or else the first.
+fn called_as<'a>(all: &'a [JobsSummary], jobs: &JobsSummary) -> Option<&'a JobsSummary> {
+    let is_same = |other: &&JobsSummary| other.at == jobs.at && other.is_called_as(jobs);
     match all.iter().find(is_same) {
         None => all.iter().find(|other| other.is_called_as(jobs)),
         found => found,
@@ -150,50 +155,52 @@ fn called_as<'a>(all: &'a [JobsAt], jobs: &JobsAt) -> Option<&'a JobsAt> {
 }
 
 /// Adds the jobs that differ, those of the first document first.
-fn put_all_jobs(draft: &mut Draft, one: &[JobsAt], other: &[JobsAt]) {
+fn put_all_jobs(buffer: &mut Buffer, one: &[JobsSummary], other: &[JobsSummary]) {
     for jobs in one {
-        put_jobs(draft, jobs, Some(jobs), called_as(other, jobs));
+        put_jobs(buffer, jobs, Some(jobs), called_as(other, jobs));
     }
     for jobs in other {
         if called_as(one, jobs).is_none() {
-            put_jobs(draft, jobs, None, Some(jobs));
+            put_jobs(buffer, jobs, None, Some(jobs));
         }
     }
 }
 
-/// Adds all that differs.
-fn put_all(draft: &mut Draft, one: &Outcome, other: &Outcome) {
+/// Adds all differences.
+fn put_all(buffer: &mut Buffer, one: &RunSummary, other: &RunSummary) {
     for (place, name) in TOTALS.iter().enumerate() {
         let (here, there) = (total(one, place), total(other, place));
         if !is_same(here, there) {
-            put_line(draft, name, here, there);
+            put_line(buffer, name, here, there);
         }
     }
-    put_all_jobs(draft, one.jobs.as_slice(), other.jobs.as_slice());
+    put_all_jobs(buffer, one.jobs.as_slice(), other.jobs.as_slice());
 }
 
 /// Writes what differs between the outcomes of two documents: how long they last, how many
 /// requests, refusals, eras and alarms there are, the first alarm, the most core sets, VAC areas
-/// and tasks at once, and what `jobs` tells of the jobs that are called the same. The writer is not
-/// flushed. Source: profile.
+/// and tasks at once, and what `jobs` tells of the jobs that are called the same. Returns whether
+/// anything differs. The writer is not flushed.
 ///
 /// # Errors
 ///
-/// `NoMemory`, and nothing was written. `Output`, where a write failed, or there was no memory for
-/// what has no room.
+/// `NoMemory`, and nothing was written. `Output` if a write failed, or there was no memory for what
+/// has no room.
 pub fn put_differences<W: Write>(
     alloc: Global,
-    one: &Outcome,
-    other: &Outcome,
+    one: &RunSummary,
+    other: &RunSummary,
     writer: &mut W,
-) -> Result<(), RunFault> {
-    let mut draft = Draft::new(alloc)?;
-    put_line(&mut draft, "", Text("first"), Text("second"));
-    let heading = draft.as_bytes().len();
-    put_all(&mut draft, one, other);
-    if draft.as_bytes().len() == heading {
-        draft.clear();
-        draft.text("nothing differs\n");
+) -> Result<bool, RunFault> {
+    let mut buffer = Buffer::new(alloc)?;
+    put_line(&mut buffer, "", Text("first"), Text("second"));
+    let heading = buffer.as_bytes().len();
+    put_all(&mut buffer, one, other);
+    let differs = buffer.as_bytes().len() > heading;
+    if !differs {
+        buffer.clear();
+        buffer.text("nothing differs\n");
     }
-    sent(&mut draft, writer)
+    send_buffer(&mut buffer, writer)?;
+    Ok(differs)
 }

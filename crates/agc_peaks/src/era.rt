@@ -1,42 +1,42 @@
-//! What is counted of an era.
+//! The statistics of an era.
 use crate::columns::{put_cell, put_cells, put_spaces, seconds};
-use crate::counting::Counts;
-use agc_text::Filling::{Number, Seconds, Text};
-use agc_text::{Draft, Filling};
+use crate::occupancy::Occupancy;
+use agc_text::Field::{Number, Seconds, Text};
+use agc_text::{Buffer, Field};
 
-/// The names of the columns.
+/// The heading of the table.
 const HEADING: &str = " era    begins  by         lasts  requests  begun  ended   sets    since  \
     areas    since  tasks    since";
 
-/// The same as a row of comma-separated values.
+/// The heading of the comma-separated values.
 const NAMES: &str = "era,begins,by,lasts,requests,begun,ended,sets,sets_since,areas,areas_since,\
     tasks,tasks_since,idle,lost,ended_by\n";
 
-/// How eras are written: with what is known where time passes by itself, which is the percentage of
-/// their ticks at which no job was running, and the computing that was lost, or without; and as
-/// comma-separated values, or in columns. Source: profile.
+/// The style of the rows of eras: whether they have what is known only if time passes by itself,
+/// which is the percentage of ticks at which no job was running, and the computing that was lost;
+/// and whether they are comma-separated values or columns.
 #[derive(Clone, Copy)]
 pub(crate) struct Style {
     pub(crate) has_time: bool,
     pub(crate) csv: bool,
 }
 
-/// How wide the columns are from the third of numbers on.
+/// The widths of the columns, from the third number on.
 const WIDTHS: [usize; 10] = [9, 9, 6, 6, 6, 8, 6, 8, 6, 8];
 
-/// The most of something that were there at once, and the centisecond since which they were.
+/// The greatest count, and the centisecond since which it was reached.
 #[derive(Clone, Copy)]
-pub(crate) struct Most {
+pub(crate) struct Maximum {
     pub(crate) count: u64,
     pub(crate) since: u64,
 }
 
-/// Nothing was there.
-const NONE: Most = Most { count: 0, since: 0 };
+/// No count yet.
+const NONE: Maximum = Maximum { count: 0, since: 0 };
 
-impl Most {
-    /// So many were there at a centisecond.
-    fn saw(&mut self, count: u64, time: u64) {
+impl Maximum {
+    /// Notes a count at a centisecond, to keep the greatest.
+    fn include(&mut self, count: u64, time: u64) {
         if count > self.count {
             self.count = count;
             self.since = time;
@@ -44,7 +44,7 @@ impl Most {
     }
 }
 
-/// What is counted of an era: why it began, and how it ended. Times are centiseconds since the
+/// The statistics of an era: why it began, and how it ended. Times are centiseconds since the
 /// start.
 #[derive(Clone, Copy)]
 pub(crate) struct Era {
@@ -56,18 +56,18 @@ pub(crate) struct Era {
     pub(crate) requests: u64,
     pub(crate) jobs_begun: u64,
     pub(crate) jobs_ended: u64,
-    pub(crate) sets: Most,
-    pub(crate) areas: Most,
-    pub(crate) tasks: Most,
-    /// At how many ticks no job was running.
+    pub(crate) sets: Maximum,
+    pub(crate) areas: Maximum,
+    pub(crate) tasks: Maximum,
+    /// Ticks at which no job was running.
     pub(crate) idle: u64,
-    /// How many hundredths of a centisecond the jobs had computed that were lost as it ended.
+    /// Computing that was lost as the era ended, in hundredths of a centisecond.
     pub(crate) lost: u64,
 }
 
 impl Era {
-    /// An era that begins now, with tables that are so full.
-    pub(crate) fn new(number: u64, began: u64, by: &'static str, counts: Counts) -> Era {
+    /// An era that begins now, with tables this full.
+    pub(crate) fn new(number: u64, began: u64, by: &'static str, occupancy: Occupancy) -> Era {
         let mut era = Era {
             number,
             began,
@@ -75,7 +75,7 @@ impl Era {
             ended: began,
             end: "the end",
             requests: 0,
-            jobs_begun: counts.sets,
+            jobs_begun: occupancy.sets,
             jobs_ended: 0,
             sets: NONE,
             areas: NONE,
@@ -83,25 +83,26 @@ impl Era {
             idle: 0,
             lost: 0,
         };
-        era.see(counts, began);
+        era.update(occupancy, began);
         era
     }
 
-    /// The tables are so full at a centisecond.
-    fn see(&mut self, counts: Counts, time: u64) {
-        self.sets.saw(counts.sets, time);
-        self.areas.saw(counts.areas, time);
-        self.tasks.saw(counts.tasks, time);
+    /// Notes how full the tables are at a centisecond.
+    fn update(&mut self, occupancy: Occupancy, time: u64) {
+        self.sets.include(occupancy.sets, time);
+        self.areas.include(occupancy.areas, time);
+        self.tasks.include(occupancy.tasks, time);
     }
 
-    /// A request was served at a centisecond: so full were the tables before, and so full are they.
-    pub(crate) fn serve(&mut self, before: Counts, counts: Counts, time: u64) {
-        let begun = counts.sets.saturating_sub(before.sets);
-        let ended = before.sets.saturating_sub(counts.sets);
+    /// Notes a request that was served at a centisecond, and how full the tables were before and
+    /// after it.
+    pub(crate) fn serve(&mut self, before: Occupancy, occupancy: Occupancy, time: u64) {
+        let begun = occupancy.sets.saturating_sub(before.sets);
+        let ended = before.sets.saturating_sub(occupancy.sets);
         self.requests = self.requests.saturating_add(1);
         self.jobs_begun = self.jobs_begun.saturating_add(begun);
         self.jobs_ended = self.jobs_ended.saturating_add(ended);
-        self.see(counts, time);
+        self.update(occupancy, time);
     }
 
     /// The percentage of its ticks at which no job was running.
@@ -111,35 +112,35 @@ impl Era {
     }
 
     /// Adds its row.
-    pub(crate) fn put(&self, style: Style, draft: &mut Draft) {
+    pub(crate) fn put(&self, style: Style, buffer: &mut Buffer) {
         if style.csv {
-            put_csv(self, style.has_time, draft);
+            put_csv(self, style.has_time, buffer);
         } else {
-            self.put_columns(style.has_time, draft);
+            self.put_columns(style.has_time, buffer);
         }
     }
 
     /// Adds its row in columns.
-    fn put_columns(&self, has_time: bool, draft: &mut Draft) {
-        put_cell(draft, 4, Number(self.number));
-        draft.text(" ");
-        put_cell(draft, 9, Seconds(self.began));
-        draft.fill("  ", Text(self.by));
-        put_spaces(draft, self.by.len(), 7);
-        put_cells(draft, " ", &WIDTHS, &numbers(self));
+    fn put_columns(&self, has_time: bool, buffer: &mut Buffer) {
+        put_cell(buffer, 4, Number(self.number));
+        buffer.text(" ");
+        put_cell(buffer, 9, Seconds(self.began));
+        buffer.fill("  ", Text(self.by));
+        put_spaces(buffer, self.by.len(), 7);
+        put_cells(buffer, " ", &WIDTHS, &numbers(self));
         if has_time {
-            draft.text(" ");
-            put_cell(draft, 4, Number(self.idle_percent()));
-            draft.text("%");
-            put_cells(draft, " ", &[7], &[seconds(self.lost)]);
+            buffer.text(" ");
+            put_cell(buffer, 4, Number(self.idle_percent()));
+            buffer.text("%");
+            put_cells(buffer, " ", &[7], &[seconds(self.lost)]);
         }
-        draft.fill("  ", Text(self.end));
-        draft.text("\n");
+        buffer.fill("  ", Text(self.end));
+        buffer.text("\n");
     }
 }
 
 /// The numbers of an era's row.
-fn numbers(era: &Era) -> [Filling<'static>; 10] {
+fn numbers(era: &Era) -> [Field<'static>; 10] {
     [
         Seconds(era.ended.saturating_sub(era.began)),
         Number(era.requests),
@@ -155,29 +156,29 @@ fn numbers(era: &Era) -> [Filling<'static>; 10] {
 }
 
 /// Adds an era's row as comma-separated values.
-fn put_csv(era: &Era, has_time: bool, draft: &mut Draft) {
+fn put_csv(era: &Era, has_time: bool, buffer: &mut Buffer) {
     let first = [Number(era.number), Seconds(era.began), Text(era.by)];
-    draft.put("{},{},{}", &first);
+    buffer.put("{},{},{}", &first);
     for cell in numbers(era) {
-        draft.fill(",", cell);
+        buffer.fill(",", cell);
     }
     if has_time {
-        let fillings = [Number(era.idle_percent()), seconds(era.lost)];
-        draft.put(",{},{}", &fillings);
+        let fields = [Number(era.idle_percent()), seconds(era.lost)];
+        buffer.put(",{},{}", &fields);
     } else {
-        draft.text(",,");
+        buffer.text(",,");
     }
-    draft.put(",{}\n", &[Text(era.end)]);
+    buffer.put(",{}\n", &[Text(era.end)]);
 }
 
 /// Adds the names of the columns.
-pub(crate) fn put_heading(style: Style, draft: &mut Draft) {
+pub(crate) fn put_heading(style: Style, buffer: &mut Buffer) {
     if style.csv {
-        draft.text(NAMES);
+        buffer.text(NAMES);
         return;
     }
-    draft.text(HEADING);
-    draft.text(if style.has_time {
+    buffer.text(HEADING);
+    buffer.text(if style.has_time {
         "  idle    lost  ended by\n"
     } else {
         "  ended by\n"

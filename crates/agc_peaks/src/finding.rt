@@ -1,14 +1,14 @@
 //! The smallest value of a scenario's number that raises an alarm.
-use crate::sweep::{Axis, Sweep, runs_of, values_of};
+use crate::sweep::{Axis, SweepWriter, runs_of, values_of};
 use agc_scenario::Scenario;
 use agc_session::RunFault;
-use agc_text::Filling::Number;
+use agc_text::Field::Number;
 use std::alloc::Global;
 use std::io::Write;
 
 /// A value that was tried, by its place from 0, and whether an alarm came.
 #[derive(Clone, Copy)]
-struct Tried {
+struct Trial {
     place: u64,
     is_alarmed: bool,
 }
@@ -16,8 +16,8 @@ struct Tried {
 /// A search among the values of a number, the only one of a sweep, and which were tried.
 #[derive(Drop)]
 struct Search<'a> {
-    sweep: Sweep<'a>,
-    tried: Vec<Tried>,
+    sweep: SweepWriter<'a>,
+    trials: Vec<Trial>,
 }
 
 impl Search<'_> {
@@ -32,23 +32,24 @@ impl Search<'_> {
         values[0]
     }
 
-    /// What came of the value at a place, if it was tried.
-    fn known(&self, place: u64) -> Option<bool> {
-        for tried in self.tried.iter() {
-            if tried.place == place {
-                return Some(tried.is_alarmed);
+    /// Whether the value at a place raised an alarm, if it was tried.
+    fn known_result(&self, place: u64) -> Option<bool> {
+        for trial in self.trials.iter() {
+            if trial.place == place {
+                return Some(trial.is_alarmed);
             }
         }
         None
     }
 
-    /// Whether the value at a place raises an alarm: a row is added where it wasn't tried before.
+    /// Whether the value at a place raises an alarm; if it wasn't tried before, it is run and its
+    /// row is added.
     fn raises(&mut self, scenario: &mut Scenario, place: u64) -> Result<bool, RunFault> {
-        if let Some(is_alarmed) = self.known(place) {
+        if let Some(is_alarmed) = self.known_result(place) {
             return Ok(is_alarmed);
         }
         let is_alarmed = self.sweep.put_run(scenario, place)?.alarms > 0;
-        self.tried.push(Tried { place, is_alarmed })?;
+        self.trials.push(Trial { place, is_alarmed })?;
         Ok(is_alarmed)
     }
 
@@ -66,7 +67,7 @@ impl Search<'_> {
 
     /// Halves the way down from a place whose value raises an alarm. The value of the place that is
     /// returned raises one, too, and the value before it, if there is one, raises none.
-    fn halved(&mut self, scenario: &mut Scenario, raising: u64) -> Result<u64, RunFault> {
+    fn bisect(&mut self, scenario: &mut Scenario, raising: u64) -> Result<u64, RunFault> {
         let mut low: u64 = 0;
         let mut high = raising;
         for _half in 0..64u32 {
@@ -98,9 +99,9 @@ impl Search<'_> {
     /// The least value, above the one that was found, that was tried and raises no alarm.
     fn exception(&self, found: u64) -> Option<u64> {
         let mut least: Option<u64> = None;
-        for tried in self.tried.iter() {
-            if tried.place > found && !tried.is_alarmed {
-                let place = least.unwrap_or(tried.place).min(tried.place);
+        for trial in self.trials.iter() {
+            if trial.place > found && !trial.is_alarmed {
+                let place = least.unwrap_or(trial.place).min(trial.place);
                 least = Some(place);
             }
         }
@@ -110,51 +111,51 @@ impl Search<'_> {
         }
     }
 
-    /// Adds which value was found, in how many runs, and whether a larger one raises no alarm.
+    /// Adds the value that was found, in how many runs, and whether a larger one raises no alarm.
     fn put_summary(&mut self, found: Option<u64>) {
-        let runs = Number(self.tried.len() as u64);
+        let runs = Number(self.trials.len() as u64);
         let Some(found) = found else {
             let words = "none of these values raises an alarm; {} runs\n";
-            self.sweep.draft.put(words, &[runs]);
+            self.sweep.buffer.put(words, &[runs]);
             return;
         };
-        let fillings = [Number(self.value(found)), runs];
-        self.sweep.draft.put(
+        let fields = [Number(self.value(found)), runs];
+        self.sweep.buffer.put(
             "the smallest value found that raises an alarm is {}; {} runs\n",
-            &fillings,
+            &fields,
         );
         if let Some(larger) = self.exception(found) {
-            self.sweep.draft.put(
+            self.sweep.buffer.put(
                 "warning: {} is larger and raises none, so there may be a smaller one\n",
                 &[Number(larger)],
             );
         }
     }
 
-    /// Looks for the smallest value that raises an alarm, and writes what was found.
+    /// Looks for the smallest value that raises an alarm, and writes it.
     fn find<W: Write>(&mut self, scenario: &mut Scenario, writer: &mut W) -> Result<(), RunFault> {
         let mut found = self.first_raising(scenario)?;
         if let Some(raising) = found {
-            let least = self.halved(scenario, raising)?;
+            let least = self.bisect(scenario, raising)?;
             self.try_larger(scenario, least)?;
             found = Some(least);
         }
         if !self.sweep.csv {
             self.put_summary(found);
         }
-        Ok(self.sweep.draft.send(writer)?)
+        Ok(self.sweep.buffer.send(writer)?)
     }
 }
 
 /// Looks for the smallest value of a number with which a scenario raises an alarm, by halving, and
 /// tries a few larger ones. Writes the row of each value that is tried, as in a sweep, and then,
 /// unless comma-separated values are asked for, what was found. The number keeps the value that was
-/// tried last. The writer is not flushed. Source: profile.
+/// tried last. The writer is not flushed.
 ///
 /// # Errors
 ///
-/// `NoMemory`, and nothing was written. `Output`, where a write failed, or there was no memory for
-/// what has no room.
+/// `NoMemory`, and nothing was written. `Output` if a write failed, or there was no memory for what
+/// has no room.
 pub fn find_alarm<W: Write>(
     alloc: Global,
     scenario: &mut Scenario,
@@ -162,8 +163,8 @@ pub fn find_alarm<W: Write>(
     csv: bool,
     writer: &mut W,
 ) -> Result<(), RunFault> {
-    let sweep = Sweep::new(alloc, axes, csv)?;
-    let tried = Vec::new(alloc);
-    let mut search = Search { sweep, tried };
+    let sweep = SweepWriter::new(alloc, axes, csv)?;
+    let trials = Vec::new(alloc);
+    let mut search = Search { sweep, trials };
     search.find(scenario, writer)
 }

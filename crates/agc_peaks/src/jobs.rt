@@ -1,76 +1,81 @@
-//! What the jobs of a run came to.
+//! The statistics of a run's jobs.
 ghost use Rattle.std.specs.Prelude.{◌≡◌, OnOk};
 ghost use Rattle.std.specs.List.{fold};
 ghost use Rattle.agc_machine.specs.Machines.{after};
 ghost use Rattle.agc_run.specs.Runs.{to_ask};
 
-use crate::counted::sent;
+use crate::clock_position::{ClockPosition, Elapsed};
+use crate::job_statistics::JobStatistics;
 use crate::jobs_rows::put_jobs;
-use crate::ledger::Ledger;
-use crate::lives::jobs_seen;
-use crate::reading::{Passed, Reading};
-use agc_plan::{Fired, Request};
+use crate::live_jobs::jobs_in;
+use crate::running::send_buffer;
+use agc_plan::Request;
 use agc_run::{Run, Subject};
 use agc_session::RunFault;
-use agc_text::Draft;
+use agc_text::Buffer;
 use std::alloc::{AllocError, Global};
 use std::io::Write;
 
-/// The time that passed before a request, or up to the end. None of it is known to be computed,
-/// stolen or idle where time passes with ticks alone.
-fn passed(run: &Run<'_>, before: &Reading, after: &Reading, is_asked: bool) -> Passed {
+/// The time that passed before a request, or up to the end. In a bench none of it is known to be
+/// computed, stolen or idle.
+fn elapsed(
+    run: &Run<'_>,
+    before: &ClockPosition,
+    after: &ClockPosition,
+    is_asked: bool,
+) -> Elapsed {
     match run.clock() {
-        None => Passed {
+        None => Elapsed {
             computed: 0,
             stolen: 0,
             idle: 0,
         },
-        Some(_clock) => before.passed(after, is_asked && before.time == after.time),
+        Some(_clock) => before.elapsed(after, is_asked && before.time == after.time),
     }
 }
 
-/// How many ticks there were with this request.
+/// The number of ticks, with this request.
 fn ticks_with(ticks: u64, request: &Request) -> u64 {
     ticks.saturating_add(u64::from(*request == Request::Tick))
 }
 
-/// Asks for all requests of a run, in order, and for no others, and takes note of what becomes of
-/// its jobs.
-fn jobs_to_end(ledger: &mut Ledger<'_>, run: &mut Run<'_>) -> Result<(), AllocError>
+/// Makes all requests of a run, in order, and no others, and follows its jobs.
+fn jobs_to_end(job_statistics: &mut JobStatistics<'_>, run: &mut Run<'_>) -> Result<(), AllocError>
     ensures { OnOk result (run.new.machine
-        ≡ fold after run.old.machine (to_ask run.old.machine run.old.asks)) }
+        ≡ fold after run.old.machine (to_ask run.old.machine run.old.pending)) }
 {
     let mut ticks: u64 = 0;
-    let mut before = Reading::of(run.clock(), ticks);
+    let mut before = ClockPosition::of(run.clock(), ticks);
     while let Some(asked) = run.next() {
-        // The jobs then, before an era begins with the request.
-        let then = jobs_seen(run.machine().moment(&asked.request).words());
-        let after = Reading::of(run.clock(), ticks_with(ticks, &asked.request));
-        let passed_now = passed(run, &before, &after, true);
-        ledger.pass(passed_now, after.time, after.moment());
-        let mut fired = Fired::new();
-        if let Ok(reply) = run.ask(&asked, &mut fired) {
+        let after = ClockPosition::of(run.clock(), ticks_with(ticks, &asked.request));
+        let elapsed_now = elapsed(run, &before, &after, true);
+        job_statistics.pass(elapsed_now, after.time, after.moment());
+        let answer = run.ask(&asked);
+        if let Ok(reply) = &answer {
             ticks = ticks_with(ticks, &asked.request);
-            ledger.see(&then)?;
+            job_statistics.update(&jobs_in(run.words_left(&answer)))?;
             if reply.begins() {
-                ledger.begin_era(&jobs_seen(run.machine().erasable()))?;
+                job_statistics.begin_era(&jobs_in(run.machine().erasable()))?;
             }
         }
-        before = Reading::of(run.clock(), ticks);
+        before = ClockPosition::of(run.clock(), ticks);
     }
-    let after = Reading::of(run.clock(), ticks);
-    let passed_last = passed(run, &before, &after, false);
-    ledger.pass(passed_last, after.time, after.moment());
-    ledger.close()
+    let after = ClockPosition::of(run.clock(), ticks);
+    let elapsed_last = elapsed(run, &before, &after, false);
+    job_statistics.pass(elapsed_last, after.time, after.moment());
+    job_statistics.close()
 }
 
-/// What the jobs of a bench or a scenario came to.
-pub(crate) fn ledger_of<'a>(alloc: Global, subject: Subject<'a>) -> Result<Ledger<'a>, RunFault> {
+/// The statistics of the jobs of a bench or a scenario.
+pub(crate) fn job_statistics_of<'a>(
+    alloc: Global,
+    subject: Subject<'a>,
+) -> Result<JobStatistics<'a>, RunFault> {
     let mut run = subject.run(alloc)?;
-    let jobs = jobs_seen(run.machine().erasable());
-    let mut ledger = Ledger::new(alloc, subject.timing(), &jobs)?;
-    match jobs_to_end(&mut ledger, &mut run) {
-        Ok(()) => Ok(ledger),
+    let jobs = jobs_in(run.machine().erasable());
+    let mut job_statistics = JobStatistics::new(alloc, subject.timing(), &jobs)?;
+    match jobs_to_end(&mut job_statistics, &mut run) {
+        Ok(()) => Ok(job_statistics),
         Err(_no_memory) => Err(RunFault::NoMemory),
     }
 }
@@ -81,20 +86,20 @@ pub(crate) fn ledger_of<'a>(alloc: Global, subject: Subject<'a>) -> Result<Ledge
 /// and slept; how often another job took over from one; its share of the processor; and of those
 /// that have a deadline, how many missed it and when the first did. Then a line for each era says
 /// how much of its time was used by jobs, stolen and idle. In a bench time passes with ticks alone,
-/// and no computing time is known. The writer is not flushed. Source: profile.
+/// and no computing time is known. The writer is not flushed.
 ///
 /// # Errors
 ///
-/// `NoMemory`, and nothing was written. `Output`, where a write failed, or there was no memory for
-/// what has no room.
+/// `NoMemory`, and nothing was written. `Output` if a write failed, or there was no memory for what
+/// has no room.
 pub fn write_jobs<W: Write>(
     alloc: Global,
     subject: Subject<'_>,
     csv: bool,
     writer: &mut W,
 ) -> Result<(), RunFault> {
-    let mut draft = Draft::new(alloc)?;
-    let ledger = ledger_of(alloc, subject)?;
-    put_jobs(&mut draft, &ledger, subject.timing(), csv);
-    sent(&mut draft, writer)
+    let mut buffer = Buffer::new(alloc)?;
+    let job_statistics = job_statistics_of(alloc, subject)?;
+    put_jobs(&mut buffer, &job_statistics, subject.timing(), csv);
+    send_buffer(&mut buffer, writer)
 }

@@ -1,29 +1,29 @@
-//! What runs come to: of each era how full the tables were, of many scenarios the first alarm, what
-//! differs between two, and the bench that a scenario is. Source: profile.
+//! Summaries of runs: how full the tables were in each era, the first alarm of many scenarios, the
+//! differences between two documents, and the bench of a scenario.
 #![tactic(auto)]
 
+mod clock_position;
 mod columns;
 mod comparing;
-mod counted;
-mod counting;
 mod era;
 mod finding;
+mod job_statistics;
 mod jobs;
 mod jobs_rows;
-mod ledger;
-mod lives;
-mod outcome;
+mod live_jobs;
+mod occupancy;
 mod peaks;
-mod reading;
 mod rows;
+mod run_statistics;
+mod running;
+mod summary;
 mod sweep;
-mod tally;
 mod writing;
 
 pub use comparing::put_differences;
 pub use finding::find_alarm;
 pub use jobs::write_jobs;
-pub use outcome::{Outcome, outcome_of};
 pub use peaks::write_peaks;
-pub use sweep::{Axis, Column, run_sweep};
+pub use summary::{RunSummary, summary_of};
+pub use sweep::{Axis, SweepParameter, run_sweep};
 pub use writing::scenario_bench;

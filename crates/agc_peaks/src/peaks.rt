@@ -1,37 +1,37 @@
 //! How full the tables were, era by era.
-use crate::counted::{Told, counted_to_end, sent};
 use crate::era::{Style, put_heading};
-use crate::tally::Tally;
+use crate::run_statistics::RunStatistics;
+use crate::running::{RunReport, run_to_end, send_buffer};
 use agc_run::{Run, Subject};
 use agc_session::RunFault;
-use agc_text::Draft;
-use agc_text::Filling::Number;
+use agc_text::Buffer;
+use agc_text::Field::Number;
 use std::alloc::Global;
 use std::io::Write;
 
-/// Adds the row of the last era, and in a table that isn't for other programs how many requests
-/// were refused.
-fn put_last(draft: &mut Draft, tally: &Tally, style: Style) {
-    tally.era("the end").put(style, draft);
-    match tally.refused {
+/// Adds the row of the last era and, unless it is for other programs, how many requests were
+/// refused.
+fn put_last(buffer: &mut Buffer, statistics: &RunStatistics, style: Style) {
+    statistics.era("the end").put(style, buffer);
+    match statistics.refused {
         _ if style.csv => {}
         0 => {}
-        1 => draft.text("1 request was refused\n"),
-        count => draft.put("{} requests were refused\n", &[Number(count)]),
+        1 => buffer.text("1 request was refused\n"),
+        count => buffer.put("{} requests were refused\n", &[Number(count)]),
     }
 }
 
-/// Writes the names of the columns, the row of each era, and what is told after them.
+/// Writes the heading, the row of each era, and the lines after them.
 fn put_eras<W: Write>(
     run: &mut Run<'_>,
     style: Style,
-    draft: &mut Draft,
+    buffer: &mut Buffer,
     writer: &mut W,
 ) -> Result<(), RunFault> {
-    put_heading(style, draft);
-    let tally = counted_to_end(run, Told::Eras(style), draft, writer)?;
-    put_last(draft, &tally, style);
-    sent(draft, writer)
+    put_heading(style, buffer);
+    let statistics = run_to_end(run, RunReport::Eras(style), buffer, writer)?;
+    put_last(buffer, &statistics, style);
+    send_buffer(buffer, writer)
 }
 
 /// Runs a bench or a scenario, and writes for each era when it began and why, how long it lasted,
@@ -39,11 +39,11 @@ fn put_eras<W: Write>(
 /// places of the Waitlist that were in use at once and since when, and what ended it; of a scenario
 /// also the percentage of its ticks at which no job was running, and how many seconds the jobs had
 /// computed that were lost as it ended; as comma-separated values, if that is asked. The writer is
-/// not flushed. Source: profile.
+/// not flushed.
 ///
 /// # Errors
 ///
-/// `NoMemory`, and nothing was written. `Output`, where a write failed.
+/// `NoMemory`, and nothing was written. `Output` if a write failed.
 pub fn write_peaks<W: Write>(
     alloc: Global,
     subject: Subject<'_>,
@@ -55,6 +55,6 @@ pub fn write_peaks<W: Write>(
         has_time: subject.timing().is_some(),
         csv,
     };
-    let mut draft = Draft::new(alloc)?;
-    put_eras(&mut run, style, &mut draft, writer)
+    let mut buffer = Buffer::new(alloc)?;
+    put_eras(&mut run, style, &mut buffer, writer)
 }

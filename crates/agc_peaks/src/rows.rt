@@ -1,91 +1,91 @@
 //! The rows of a sweep.
 use crate::columns::{put_cell, put_cells, put_spaces};
+use crate::run_statistics::RunPeaks;
 use crate::sweep::Axis;
-use crate::tally::Found;
-use agc_text::Draft;
-use agc_text::Filling::{Csv, Number, Seconds, Text};
+use agc_text::Buffer;
+use agc_text::Field::{Csv, Number, Seconds, Text};
 
-/// How wide the column of a number is.
+/// The width of a number's column.
 fn width_of(axis: &Axis<'_>) -> usize {
     axis.name.chars().count().max(10)
 }
 
 /// Adds the names of the columns.
-pub(crate) fn put_names(draft: &mut Draft, axes: &[Axis<'_>], csv: bool) {
+pub(crate) fn put_names(buffer: &mut Buffer, axes: &[Axis<'_>], csv: bool) {
     let mut before = "";
     for axis in axes {
         if csv {
-            draft.put("{},", &[Csv(axis.name)]);
+            buffer.put("{},", &[Csv(axis.name)]);
         } else {
-            draft.text(before);
+            buffer.text(before);
             before = "  ";
-            put_spaces(draft, axis.name.chars().count(), width_of(axis));
-            draft.text(axis.name);
+            put_spaces(buffer, axis.name.chars().count(), width_of(axis));
+            buffer.text(axis.name);
         }
     }
-    draft.text(if csv {
+    buffer.text(if csv {
         "alarm,at,alarms,most_sets,most_areas,most_tasks\n"
     } else {
         "  alarm         at  alarms  sets  areas  tasks\n"
     });
 }
 
-/// Adds what was found, as comma-separated values.
-fn put_csv(draft: &mut Draft, found: &Found) {
-    let at = match found.alarms {
+/// Adds the peaks of a run as comma-separated values.
+fn put_csv(buffer: &mut Buffer, peaks: &RunPeaks) {
+    let at = match peaks.alarms {
         0 => Text(""),
-        _ => Seconds(found.at),
+        _ => Seconds(peaks.at),
     };
-    let fillings = [
-        Text(found.code),
+    let fields = [
+        Text(peaks.code),
         at,
-        Number(found.alarms),
-        Number(found.sets),
-        Number(found.areas),
-        Number(found.tasks),
+        Number(peaks.alarms),
+        Number(peaks.sets),
+        Number(peaks.areas),
+        Number(peaks.tasks),
     ];
-    draft.put("{},{},{},{},{},{}\n", &fillings);
+    buffer.put("{},{},{},{},{},{}\n", &fields);
 }
 
-/// Adds what was found, in columns.
-fn put_row(draft: &mut Draft, found: &Found) {
-    if found.alarms == 0 {
-        draft.text("  none           -");
+/// Adds the peaks of a run in columns.
+fn put_row(buffer: &mut Buffer, peaks: &RunPeaks) {
+    if peaks.alarms == 0 {
+        buffer.text("  none           -");
     } else {
-        draft.put("  {}   ", &[Text(found.code)]);
-        put_cell(draft, 9, Seconds(found.at));
+        buffer.put("  {}   ", &[Text(peaks.code)]);
+        put_cell(buffer, 9, Seconds(peaks.at));
     }
     let cells = [
-        Number(found.alarms),
-        Number(found.sets),
-        Number(found.areas),
-        Number(found.tasks),
+        Number(peaks.alarms),
+        Number(peaks.sets),
+        Number(peaks.areas),
+        Number(peaks.tasks),
     ];
-    put_cells(draft, "  ", &[6, 4, 5, 5], &cells);
-    draft.text("\n");
+    put_cells(buffer, "  ", &[6, 4, 5, 5], &cells);
+    buffer.text("\n");
 }
 
-/// Adds what comes of these values of numbers.
-pub(crate) fn put_found(
-    draft: &mut Draft,
+/// Adds the row of these values: the values, and the peaks of the run.
+pub(crate) fn put_peaks(
+    buffer: &mut Buffer,
     axes: &[Axis<'_>],
     csv: bool,
     values: &[u64],
-    found: &Found,
+    peaks: &RunPeaks,
 ) {
     let mut is_first = true;
     for (axis, value) in axes.iter().zip(values.iter()) {
         if csv {
-            draft.put("{},", &[Number(*value)]);
+            buffer.put("{},", &[Number(*value)]);
         } else {
-            draft.text(if is_first { "" } else { "  " });
+            buffer.text(if is_first { "" } else { "  " });
             is_first = false;
-            put_cell(draft, width_of(axis).min(60), Number(*value));
+            put_cell(buffer, width_of(axis).min(60), Number(*value));
         }
     }
     if csv {
-        put_csv(draft, found);
+        put_csv(buffer, peaks);
     } else {
-        put_row(draft, found);
+        put_row(buffer, peaks);
     }
 }

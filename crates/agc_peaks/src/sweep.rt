@@ -1,54 +1,52 @@
 //! A scenario's run for each value of one of its numbers.
-use crate::counted::counted;
-use crate::rows::{put_found, put_names};
-use crate::tally::Found;
-use agc_run::{Asks, Run};
+use crate::rows::{put_names, put_peaks};
+use crate::run_statistics::RunPeaks;
+use crate::running::statistics_without_report;
+use agc_run::{PendingRequests, Run};
 use agc_scenario::{Number, Scenario};
 use agc_session::{Progress, RunFault, machine_on};
-use agc_text::Draft;
+use agc_text::Buffer;
 use agc_word::Sets;
 use std::alloc::{AllocError, Global};
 use std::io::Write;
 
-/// Which number is exchanged: how many core sets there are, or one of the scenario. Source:
-/// profile.
+/// The number that is changed: the number of core sets, or one of the scenario's.
 #[derive(Clone, Copy)]
-pub enum Column {
+pub enum SweepParameter {
     Sets,
     Number(Number),
 }
 
-impl Column {
-    /// The number that a name says, as `sets`, or as [`Scenario::number`] has it. Source: profile.
-    pub fn named(scenario: &Scenario, name: &str) -> Option<Column> {
+impl SweepParameter {
+    /// The number that a name says, as `sets`, or as [`Scenario::number`] has it.
+    pub fn from_name(scenario: &Scenario, name: &str) -> Option<SweepParameter> {
         match name {
-            "sets" => Some(Column::Sets),
-            _ => scenario.number(name).map(Column::Number),
+            "sets" => Some(SweepParameter::Sets),
+            _ => scenario.number(name).map(SweepParameter::Number),
         }
     }
 
-    /// The least and the most that it may be. Source: profile.
+    /// The least and the most that it may be.
     pub fn range(self) -> (u64, u64) {
         match self {
-            Column::Sets => (7, 8),
-            Column::Number(number) => number.range(),
+            SweepParameter::Sets => (7, 8),
+            SweepParameter::Number(number) => number.range(),
         }
     }
 }
 
-/// One of the numbers of a sweep: what it is called, which it is, its first value, its last, and
-/// the step. Source: profile.
+/// One of the numbers of a sweep: its name, which it is, its first value, its last, and the step.
 #[derive(Clone, Copy)]
 pub struct Axis<'a> {
     pub name: &'a str,
-    pub column: Column,
+    pub parameter: SweepParameter,
     pub from: u64,
     pub to: u64,
     pub step: u64,
 }
 
 impl Axis<'_> {
-    /// How many values it has: one at least.
+    /// The number of its values, at least one.
     fn count(&self) -> u64 {
         (self.to.saturating_sub(self.from) / self.step.max(1)).saturating_add(1)
     }
@@ -60,35 +58,35 @@ impl Axis<'_> {
     }
 }
 
-/// What is counted of a scenario's run on so many core sets.
-fn found_in(alloc: Global, scenario: &Scenario, sets: Sets) -> Result<Found, RunFault> {
+/// The peaks of a scenario's run on this many core sets.
+fn peaks_in(alloc: Global, scenario: &Scenario, sets: Sets) -> Result<RunPeaks, RunFault> {
     let machine = machine_on(alloc, scenario.bench(), sets)?;
-    let mut run = Run::new(machine, Asks::of_scenario(scenario.timing()));
-    match counted(alloc, &mut run) {
-        Ok(tally) => Ok(tally.found()),
+    let mut run = Run::new(machine, PendingRequests::of_scenario(scenario.timing()));
+    match statistics_without_report(alloc, &mut run) {
+        Ok(statistics) => Ok(statistics.peaks()),
         Err(fault) => Err(fault),
     }
 }
 
-/// What is counted of a scenario's run in which its numbers have these values. They keep them.
-pub(crate) fn found_with(
+/// The peaks of a scenario's run with these values of its numbers. They keep these values.
+pub(crate) fn peaks_with(
     alloc: Global,
     scenario: &mut Scenario,
     axes: &[Axis<'_>],
     values: &[u64],
-) -> Result<Found, RunFault> {
+) -> Result<RunPeaks, RunFault> {
     let mut sets = scenario.bench().sets();
     for (axis, value) in axes.iter().zip(values.iter()) {
-        match axis.column {
-            Column::Sets if *value == 8 => sets = Sets::Eight,
-            Column::Sets => sets = Sets::Seven,
-            Column::Number(number) => scenario.exchange(alloc, number, *value)?,
+        match axis.parameter {
+            SweepParameter::Sets if *value == 8 => sets = Sets::Eight,
+            SweepParameter::Sets => sets = Sets::Seven,
+            SweepParameter::Number(number) => scenario.exchange(alloc, number, *value)?,
         }
     }
-    found_in(alloc, scenario, sets)
+    peaks_in(alloc, scenario, sets)
 }
 
-/// How many runs a sweep has: one for each value of each number with each of the others.
+/// The number of runs: one for each value of each number with each of the others.
 pub(crate) fn runs_of(axes: &[Axis<'_>]) -> u64 {
     let mut count: u64 = 1;
     for axis in axes {
@@ -97,7 +95,7 @@ pub(crate) fn runs_of(axes: &[Axis<'_>]) -> u64 {
     count
 }
 
-/// The values of two numbers at most in this run of all, from 0; those of the last number change
+/// The values of at most two numbers in a run, counted from 0. Those of the last number change
 /// first.
 pub(crate) fn values_of(axes: &[Axis<'_>], run: u64) -> [u64; 2] {
     match axes {
@@ -110,38 +108,44 @@ pub(crate) fn values_of(axes: &[Axis<'_>], run: u64) -> [u64; 2] {
     }
 }
 
-/// A sweep: its numbers, whether its rows are comma-separated values, and what is told next.
+/// A sweep: its numbers, whether its rows are comma-separated values, and the text to be written
+/// next.
 #[derive(Drop)]
-pub(crate) struct Sweep<'a> {
+pub(crate) struct SweepWriter<'a> {
     alloc: Global,
     pub(crate) axes: &'a [Axis<'a>],
     pub(crate) csv: bool,
-    pub(crate) draft: Draft,
+    pub(crate) buffer: Buffer,
 }
 
-impl<'a> Sweep<'a> {
-    /// A sweep of these numbers: the names of the columns are told next.
+impl<'a> SweepWriter<'a> {
+    /// A sweep of these numbers, with the heading to be written next.
     pub(crate) fn new(
         alloc: Global,
         axes: &'a [Axis<'a>],
         csv: bool,
-    ) -> Result<Sweep<'a>, AllocError> {
-        let mut draft = Draft::new(alloc)?;
-        put_names(&mut draft, axes, csv);
-        Ok(Sweep {
+    ) -> Result<SweepWriter<'a>, AllocError> {
+        let mut buffer = Buffer::new(alloc)?;
+        put_names(&mut buffer, axes, csv);
+        Ok(SweepWriter {
             alloc,
             axes,
             csv,
-            draft,
+            buffer,
         })
     }
 
-    /// Adds the row of this run of all, from 0. Returns what was counted.
-    pub(crate) fn put_run(&mut self, scenario: &mut Scenario, run: u64) -> Result<Found, RunFault> {
+    /// Runs the scenario for a run of the sweep, counted from 0, and adds its row. Returns the
+    /// peaks.
+    pub(crate) fn put_run(
+        &mut self,
+        scenario: &mut Scenario,
+        run: u64,
+    ) -> Result<RunPeaks, RunFault> {
         let values = values_of(self.axes, run);
-        let found = found_with(self.alloc, scenario, self.axes, &values)?;
-        put_found(&mut self.draft, self.axes, self.csv, &values, &found);
-        Ok(found)
+        let peaks = peaks_with(self.alloc, scenario, self.axes, &values)?;
+        put_peaks(&mut self.buffer, self.axes, self.csv, &values, &peaks);
+        Ok(peaks)
     }
 
     /// Writes the row of each run.
@@ -155,7 +159,7 @@ impl<'a> Sweep<'a> {
         progress.expect(count);
         for run in 0..count {
             let _found = self.put_run(scenario, run)?;
-            self.draft.send(writer)?;
+            self.buffer.send(writer)?;
             progress.done();
         }
         Ok(())
@@ -166,11 +170,11 @@ impl<'a> Sweep<'a> {
 /// and writes a row for each: the values, the first alarm and the second at which it came, how many
 /// alarms came, and the most core sets, VAC areas and places of the Waitlist that were taken at
 /// once; as comma-separated values, if these are asked for. The numbers keep their last values. The
-/// writer is not flushed. Source: profile.
+/// writer is not flushed.
 ///
 /// # Errors
 ///
-/// `NoMemory`, and no further row is written. `Output`, where a write failed.
+/// `NoMemory`, and no further row is written. `Output` if a write failed.
 pub fn run_sweep<P: Progress, W: Write>(
     alloc: Global,
     scenario: &mut Scenario,
@@ -179,6 +183,6 @@ pub fn run_sweep<P: Progress, W: Write>(
     progress: &mut P,
     writer: &mut W,
 ) -> Result<(), RunFault> {
-    let mut sweep = Sweep::new(alloc, axes, csv)?;
+    let mut sweep = SweepWriter::new(alloc, axes, csv)?;
     sweep.run_all(scenario, progress, writer)
 }

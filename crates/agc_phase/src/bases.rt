@@ -12,9 +12,9 @@ use std::marker::Model;
 /// PHASE TABLE MAINTENANCE section; the greatest phase is profile.
 pub type Phases = [Phase; 6];
 
-/// What a restart keeps: the phases of the six restart groups, and the first, the second and the
-/// latest alarm code. Source: the listings' PHASE TABLE MAINTENANCE section; what FAILREG keeps is
-/// profile.
+/// The part of the tables that a restart keeps: the phases of the six restart groups, and the
+/// first, the second and the latest alarm code. Source: the listings' PHASE TABLE MAINTENANCE
+/// section; the contents of FAILREG are profile.
 #[derive(Clone, Copy)]
 pub struct Base {
     phases: Phases,
@@ -63,7 +63,7 @@ impl Base {
         self.phases
     }
 
-    /// The first, the second and the latest code. Source: profile.
+    /// The first, the second and the latest code.
     pub fn codes(&self) -> [Option<Code>; 3]
         ensures codes { result ≡ self.now.codes }
         ensures three { length self.now.codes ≡ 3 }
@@ -71,8 +71,8 @@ impl Base {
         self.codes
     }
 
-    /// What a restart keeps of these words: all phases and codes. Source: the listings' PHASE TABLE
-    /// MAINTENANCE section; what FAILREG keeps is profile.
+    /// The part of these words that a restart keeps: all phases and codes. Source: the listings'
+    /// PHASE TABLE MAINTENANCE section; the contents of FAILREG are profile.
     pub fn read(e: &Erasable) -> Base
         requires { IsLawfulTable e.now }
         ensures { result ≡ base_of e.now }

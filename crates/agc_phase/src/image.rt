@@ -21,7 +21,7 @@ pub(crate) fn inactive() -> Phase
     }
 }
 
-/// The word of a code: its digits in octal, or 00000 for none. Source: profile.
+/// The word of a code: its digits in octal, or 00000 for none.
 pub fn code_word(code: Option<Code>) -> Word
     ensures { result ≡ code_word code }
 {

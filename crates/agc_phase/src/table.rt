@@ -52,8 +52,7 @@ pub fn phases(e: &Erasable) -> Phases
     ]
 }
 
-/// FAILREG: the words of the first, the second and the latest code, 00000 for none. Source:
-/// profile.
+/// FAILREG: the words of the first, the second and the latest code, 00000 for none.
 pub fn failreg(e: &Erasable) -> [Word; 3]
     ensures words { result ≡ failreg_words e.now }
     ensures codes { IsLawfulTable e.now → result ≡ map code_word (base_of e.now).codes }
@@ -83,7 +82,7 @@ fn free_place(e: &Erasable) -> usize
 }
 
 /// Adds a code: as the first where there is none, else as the second where there is none, and
-/// always as the latest. Source: profile.
+/// always as the latest.
 pub fn record_alarm(e: &mut Erasable, code: Code)
     requires { IsLawfulTable e.old }
     ensures { Becomes (with_code code (base_of e.old)) e.old e.new }

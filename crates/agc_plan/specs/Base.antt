@@ -3,7 +3,7 @@ use Rattle.std.specs.Prelude.{ℕ, ◌-◌, List, Option, Some, None, slice_set,
 use Rattle.std.specs.Prelude.{replicate}
 use Rattle.agc_plan.specs.declared.reply.Code.{Code}
 
--- what an era begins with, and a restart keeps
+-- the part of a state that an era begins with, and that a restart keeps
 pub record Base : Type 0 where
   pub phases : List ℕ
   pub codes : List (Option Code)

@@ -1,4 +1,4 @@
--- What begins again while a group stands in a phase.
+-- Entries of a plan, which begin again while a group is in a phase.
 use Rattle.std.specs.Prelude.{ℕ, Option}
 use Rattle.agc_plan.specs.declared.request.JobStart.{JobStart}
 use Rattle.agc_plan.specs.declared.request.Task.{Task}

@@ -12,12 +12,12 @@ use Rattle.agc_plan.specs.Tasks.{Agenda}
 use Rattle.agc_plan.specs.Begins.{Begins}
 use Rattle.agc_plan.specs.Plans.{entry_at}
 
--- what a restart throws away: the jobs, and the tasks with the time
+-- the part of a state that a restart throws away: the jobs, and the tasks with the time
 pub record Work : Type 0 where
   pub jobs : Jobs
   pub agenda : Agenda
 
--- so many core sets, nobody lives in them, nothing waits, and time begins
+-- this many core sets without jobs, no tasks, and time 0
 abbrev pub no_work : ℕ → Work
 no_work sets = record { jobs = no_jobs sets; agenda = record { tasks = []; time = 0 } }
 
@@ -30,13 +30,13 @@ abbrev pub start_of : JobStart → Action
 start_of (Novac priority entry) = action.Novac priority entry
 start_of (Findvac priority entry) = action.Findvac priority entry
 
--- what an entry does: its job is established, and then its task listed, where it has one
+-- the actions of an entry: to establish its job, and then to list its task, if it has them
 abbrev pub actions_of : Begins → List Action
 actions_of e =
     option_to_list (option_map start_of e.job)
     ++ option_to_list (option_map (λ listing. action.List listing.0 listing.1) e.task)
 
--- what the groups from this one on do, in order, with these phases
+-- the actions of the groups from this one on, in order, with these phases
 abbrev pub actions_from : List Begins → ℕ → List ℕ → List Action
 actions_from entries group [] = []
 actions_from entries group (phase ∷ phases) =

@@ -52,19 +52,19 @@ fires_from plan plain [] = []
 fires_from plan plain (asked ∷ log) =
     fired_in plan asked plain ∷ fires_from plan (step plan asked plain).plain log
 
--- those that fire after a fresh start, with this plan
+-- the tasks that fire after a fresh start, with this plan
 abbrev pub fires_by : Planned → List Request → List (List Task)
 fires_by plan log = fires_from plan (era plan fresh_base) log
 
--- the same with a plan of nothing
+-- the replies after a fresh start, with an empty plan
 abbrev pub replies : List Request → List Reply
 replies log = replies_by (planned [] []) log
 
--- the same on eight core sets
+-- the replies on eight core sets, with an empty plan
 abbrev pub replies_of_eight : List Request → List Reply
 replies_of_eight log = replies_by (record (planned [] []) { sets = 8 }) log
 
--- what is reached after a fresh start, with a plan of nothing
+-- the state after a fresh start, with an empty plan
 abbrev pub state : List Request → Plain
 state log = reached (planned [] []) fresh_base log
 
@@ -158,7 +158,7 @@ pub record Examples : Type 0 where
   -- the least number is used again
   pub least_again : replies area_again
       ≡ Established 1 ∷ Established 2 ∷ Left (Some 2) ∷ Established 1 ∷ []
-  -- and so is the least area
+  -- the lowest area that is free is given out again
   pub least_area_again : option_map (λ j. j.area) (job_in (state area_again).work.jobs.slots 1)
       ≡ Some 1
   -- a new job comes to the second core set, as a sleeper stands in the first, and is exchanged into

@@ -25,7 +25,7 @@ abbrev pub started : JobStart → Jobs → Outcome
 started (Novac priority entry) jobs = novac priority entry jobs
 started (Findvac priority entry) jobs = findvac priority entry jobs
 
--- the same, where there is such a job
+-- the jobs after an entry's job was started, if it has one
 abbrev pub jobs_begun : Option JobStart → Jobs → Jobs
 jobs_begun None jobs = jobs
 jobs_begun (Some job) jobs = (started job jobs).jobs

@@ -17,7 +17,7 @@ pair_order one other = ordering_then (nat_cmp one.0 other.0) (nat_cmp one.1 othe
 abbrev pub indexed : BTreeMap (ℕ × ℕ) ℕ → Task → Option ℕ
 indexed index task = get pair_order index (task.at, task.bank)
 
--- and by the rows, of which the first has this number
+-- the number of a task's row, among rows of which the first has this number
 abbrev pub number_from : ℕ → Rows → Task → Option ℕ
 number_from n [] task = None
 number_from n (row ∷ rows) task =
@@ -27,7 +27,7 @@ number_from n (row ∷ rows) task =
 abbrev pub IsIndex : Rows → BTreeMap (ℕ × ℕ) ℕ → Type 0
 IsIndex rows index = (task : Task) → indexed index task ≡ number_from 0 rows task
 
--- whether one of these rows is of an indexed task
+-- whether any row is of an indexed task
 abbrev pub any_indexed : BTreeMap (ℕ × ℕ) ℕ → Rows → Bool
 any_indexed index rows = list_any (λ row. is_some (indexed index row.0)) rows
 

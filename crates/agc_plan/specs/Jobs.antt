@@ -118,7 +118,7 @@ left_by number made jobs =
     let slots = with_job jobs.slots number made in
     record { jobs = record { slots = slots; running = best slots }; reply = Left (best slots) }
 
--- what is done with the number of the running job; where nobody runs, nothing changes
+-- a call on the running job; if no job is running, nothing changes
 abbrev pub if_running : (ℕ → Outcome) → Jobs → Outcome
 if_running done jobs = option_map_or done jobs.running (record { jobs = jobs; reply = NoJob })
 

@@ -1,5 +1,5 @@
--- What a reader of the landing alarms wants to know, in words that know nothing of how the model
--- computes, but for what one task that fires does.
+-- Facts that a reader of the landing alarms wants to know, in words that know nothing of how the
+-- model computes, except for the effect of one task that fires.
 use Rattle.std.specs.Prelude.{◌≡◌, ◌⊎◌, ℕ, ◌<◌, ◌≤◌, zero, suc, true, false, List, [], ◌∷◌, ◌++◌}
 use Rattle.std.specs.Prelude.{length, map, All, slice_index_or, Option, Some, None}
 use Rattle.agc_plan.specs.declared.reply.Alarm.{Alarm}
@@ -23,7 +23,7 @@ use Rattle.agc_plan.specs.Steps.{Fires, done, all_done, dispatched_work}
 abbrev pub Lives : List (Option Job) → ℕ → Job → Type 0
 Lives slots number job = (1 ≤ number) × (job_in slots number ≡ Some job)
 
--- it lives and is awake
+-- a job is alive and awake
 abbrev pub LivesAwake : List (Option Job) → ℕ → Job → Type 0
 LivesAwake slots number job = Lives slots number job × (job.asleep ≡ false)
 
@@ -104,25 +104,25 @@ living (Some job ∷ slots) = suc (living slots)
 abbrev pub SomeAreaIsUnowned : List (Option Job) → Type 0
 SomeAreaIsUnowned slots = (area : ℕ) × (1 ≤ area) × (area ≤ 5) × IsUnowned slots area
 
--- it asks for a job with an area, and each of the five is owned
+-- an action wants an area, and each of the five is owned
 abbrev pub MissesArea : Action → Work → Type 0
 MissesArea (action.Findvac priority entry) work = IsEachOwned work.jobs.slots
 MissesArea other work = ⊥
 
--- it asks for a job, and as many live as there are numbers; where the job is to have an area, one
--- of the five is nobody's
+-- an action wants a job, and as many are alive as there are numbers; if the job is to have an area,
+-- one of the five is free
 abbrev pub MissesNumber : Action → Work → Type 0
 MissesNumber (action.Novac priority entry) work = living work.jobs.slots ≡ length work.jobs.slots
 MissesNumber (action.Findvac priority entry) work = SomeAreaIsUnowned work.jobs.slots
     × (living work.jobs.slots ≡ length work.jobs.slots)
 MissesNumber other work = ⊥
 
--- it lists a task, and nine wait
+-- an action lists a task, and nine are waiting
 abbrev pub MissesRoom : Action → Work → Type 0
 MissesRoom (action.List delay task) work = length work.agenda.tasks ≡ 9
 MissesRoom other work = ⊥
 
--- what an alarm tells of an action, and of the work in which it is done
+-- the shortage that an alarm reports, of an action and the work in which it is done
 abbrev pub Misses : Alarm → Action → Work → Type 0
 Misses A1201 act work = MissesArea act work
 Misses A1202 act work = MissesNumber act work
@@ -140,13 +140,13 @@ as_action (request.Rouse at) = action.Rouse at
 as_action (request.List delay task) = action.List delay task
 as_action other = action.Nothing
 
--- these are done one after another, and none misses anything
+-- these actions are done one after another, and none misses anything
 abbrev pub NoneMisses : List Action → Work → Type 0
 NoneMisses [] work = Unit {0}
 NoneMisses (act ∷ acts) work = MissesNothing act work × NoneMisses acts (done act work).work
 
--- of these the one of this number, counted from 0, misses what this alarm tells, and those before
--- it miss nothing
+-- the action with this number, counted from 0, misses what this alarm reports, and those before it
+-- miss nothing
 abbrev pub StopsAt : ℕ → Alarm → List Action → Work → Type 0
 StopsAt number alarm [] work = ⊥
 StopsAt zero alarm (act ∷ acts) work = Misses alarm act work
@@ -202,30 +202,30 @@ IsUnrivalled jobs =
 abbrev pub IsNothingDue : Agenda → Type 0
 IsNothingDue agenda = All (λ p. agenda.time < p.due) agenda.tasks
 
--- what an action lists is due later than now, as each delay that can be asked for is at least 1
+-- the task that an action lists is due later than now, since the shortest delay is 1
 abbrev pub IsActionDelayed : Action → Type 0
 IsActionDelayed (action.List delay task) = 1 ≤ delay
 IsActionDelayed other = Unit {0}
 
--- so is what a phase's entry lists
+-- the task that an entry lists is due later than now
 abbrev pub IsListingDelayed : Option (ℕ × Task) → Type 0
 IsListingDelayed None = Unit {0}
 IsListingDelayed (Some listing) = 1 ≤ listing.0
 
--- and what is asked for
+-- the task that a request lists is due later than now
 abbrev pub IsRequestDelayed : Request → Type 0
 IsRequestDelayed (request.List delay task) = 1 ≤ delay
 IsRequestDelayed other = Unit {0}
 
--- whatever these rows' actions list is due later
+-- all tasks that the actions of these rows list are due later than now
 abbrev pub AreActionsDelayed : Rows → Type 0
 AreActionsDelayed rows = All (λ row. All IsActionDelayed row.1) rows
 
--- whatever these entries list is
+-- all tasks that these entries list are due later than now
 abbrev pub AreListingsDelayed : List Begins → Type 0
 AreListingsDelayed entries = All (λ e. IsListingDelayed e.task) entries
 
--- of these tasks the first ones fired, in this order, and all of them unless an alarm came
+-- the first of these tasks fired, in this order, and all of them unless an alarm came
 abbrev pub FiresThese : List Pending → Fires → Type 0
 FiresThese due fires = (rest : List Task) × (fires.fired ++ rest ≡ map (λ p. p.task) due)
     × (fires.alarm ≡ None → rest ≡ [])

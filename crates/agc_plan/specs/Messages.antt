@@ -4,7 +4,7 @@ use Rattle.agc_plan.specs.declared.plan.PlanFault.{PlanFault}
 use Rattle.agc_plan.specs.declared.plan.PlanFault.TheVariants.{NoMemory, TaskTwice, PhaseTwice}
 use Rattle.agc_plan.specs.declared.plan.PlanFault.TheVariants.{TooManyAreas}
 
--- what a fault is printed as
+-- the text of a fault
 abbrev pub plan_fault_text : PlanFault → List ℕ
 plan_fault_text NoMemory = codes "no memory"
 plan_fault_text TaskTwice = codes "task twice"

@@ -92,7 +92,7 @@ abbrev pub group_wants : List Begins → ℕ → Bool
 group_wants [] group = false
 group_wants (e ∷ es) group = ((e.group == group) && wants_area e.job) || group_wants es group
 
--- whether each of the six groups has such an entry
+-- whether each of the six groups has an entry that wants a VAC area
 abbrev pub all_want : List Begins → Bool
 all_want es = group_wants es 1 && (group_wants es 2 && (group_wants es 3 && (group_wants es 4 && (group_wants es 5 && group_wants es 6))))
 

@@ -24,11 +24,11 @@ action_request (action.Findvac priority entry) = Some (request.Findvac priority 
 action_request (action.Rouse at) = Some (request.Rouse at)
 action_request (action.List delay task) = Some (request.List delay task)
 
--- and the requests by which actions are asked for, in order
+-- the requests of actions, in order
 abbrev pub requests_for : List Action → List Request
 requests_for actions = flat_map (λ act. option_to_list (action_request act)) actions
 
--- what a pulse of a line asks for, in order: a tick, or the plan's actions
+-- the requests of a pulse, in order: a tick, or those of the plan's actions
 abbrev pub pulse_requests : Planned → Line → List Request
 pulse_requests plan Timer = request.Tick ∷ []
 pulse_requests plan Key = requests_for plan.key
@@ -38,6 +38,6 @@ pulse_requests plan Radar = requests_for plan.radar
 abbrev pub asks_nothing : Planned → Line → Bool
 asks_nothing plan line = length (pulse_requests plan line) == 0
 
--- the same so many times, one after the other
+-- a list, repeated this many times
 abbrev pub repeated : {A : Type 0} → List A → ℕ → List A
 repeated asked times = flat_map (λ all. all) (replicate times asked)

@@ -31,7 +31,7 @@ seated_action (action.Findvac priority entry) seated = seated_new (findvac prior
 seated_action (action.Rouse at) seated = record { jobs = (rouse at seated.jobs).jobs; places = fronted (rouse at seated.jobs).jobs.running seated.places }
 seated_action other seated = seated
 
--- these actions are done, in order
+-- the core sets after these actions, done in order
 abbrev pub seated_by : List Action → Seated → Seated
 seated_by actions seated = fold (λ s act. seated_action act s) seated actions
 
@@ -66,7 +66,7 @@ pub record Placed : Type 0 where
   pub plain : Plain
   pub places : List ℕ
 
--- what the log reaches from the beginning of an era, and the core sets then
+-- the state and the core sets after a log, from the beginning of an era on
 abbrev pub placed : Planned → Base → List Request → Placed
 placed plan base log =
     let start : Placed = record { plain = era plan base; places = era_places plan base } in

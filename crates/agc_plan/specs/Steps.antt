@@ -37,7 +37,7 @@ abbrev pub is_tick : Request → Bool
 is_tick request.Tick = true
 is_tick asked = false
 
--- what was done to the jobs
+-- the outcome of a call on the jobs
 abbrev pub with_jobs : Outcome → Work → Acted
 with_jobs outcome work = record { work = record work { jobs = outcome.jobs }; reply = outcome.reply }
 
@@ -75,7 +75,7 @@ all_done [] work = record { work = work; alarm = None }
 all_done (act ∷ acts) work =
     if is_some (done act work).alarm then done act work else all_done acts (done act work).work
 
--- those that are
+-- the actions that are done, up to the first that raises an alarm
 abbrev pub those_done : List Action → Work → List Action
 those_done [] work = []
 those_done (act ∷ acts) work =
@@ -91,8 +91,8 @@ begun plan phases =
 abbrev pub era : Planned → Base → Plain
 era plan base = record { work = begun plan base.phases; base = base }
 
--- what firing leaves, the tasks that fired, of each the actions that were done, and the alarm that
--- ended it, if one did
+-- the outcome of firing: the work it leaves, the tasks that fired, the actions that were done for
+-- each, and the alarm that ended it, if one did
 pub record Fires : Type 0 where
   pub work : Work
   pub fired : List Task
@@ -123,7 +123,7 @@ fire_first (Some task) rows work fired acts again =
     let did = all_done its here in
     unless_alarm did.alarm did.work (fired ++ task ∷ []) (acts ++ those_done its here ∷ []) again
 
--- so many times at most: of the tasks that are due the earliest arrival fires
+-- fires at most this many times: each time, of the tasks that are due, the earliest arrival
 abbrev pub fire : ℕ → Rows → Work → List Task → List (List Action) → Fires
 fire zero rows work fired acts = record { work = work; fired = fired; acts = acts; alarm = None }
 fire (suc more) rows work fired acts =
@@ -138,7 +138,7 @@ fire_all rows work fired acts =
 abbrev pub later_work : Work → Work
 later_work work = record work { agenda = later work.agenda }
 
--- what fires in a tick
+-- the outcome of firing in a tick
 abbrev pub tick_fires : Rows → Work → Fires
 tick_fires rows work = fire_all rows (later_work work) [] []
 
@@ -157,7 +157,7 @@ pub record Stepped : Type 0 where
 abbrev pub with_work : Acted → Plain → Stepped
 with_work acted plain = record { plain = record plain { work = acted.work }; reply = acted.reply }
 
--- what a request does, before an era begins with it
+-- the effect of a request, before an era begins with it
 abbrev pub acted : Planned → Request → Plain → Stepped
 acted plan (request.Novac priority entry) plain = with_work (with_jobs (novac priority entry plain.work.jobs) plain.work) plain
 acted plan (request.Findvac priority entry) plain = with_work (with_jobs (findvac priority entry plain.work.jobs) plain.work) plain
@@ -212,6 +212,6 @@ step plan asked plain =
     let did = acted plan asked plain in
     record { plain = ended plan did; reply = did.reply }
 
--- what the log reaches from the beginning of an era
+-- the state after a log, from the beginning of an era on
 abbrev pub reached : Planned → Base → List Request → Plain
 reached plan base log = fold (λ plain asked. (step plan asked plain).plain) (era plan base) log

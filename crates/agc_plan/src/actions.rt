@@ -10,8 +10,8 @@ impl Default for Action {
     }
 }
 
-/// What is done when a task fires: at most four actions, in order. Contracts see them as a list.
-/// Source: profile.
+/// The actions that a task does when it fires: at most four, in order. Contracts see them as a
+/// list.
 #[derive(Drop)]
 pub struct Actions {
     actions: ArrayVec<Action, 4>,
@@ -61,7 +61,7 @@ impl Actions {
         self.actions.as_slice()
     }
 
-    /// The same actions once more.
+    /// A copy of these actions.
     pub fn copied(&self) -> Actions
         ensures { result ≡ self.now }
     {

@@ -36,8 +36,7 @@ impl Default for FiredTask {
     }
 }
 
-/// The tasks that a tick fired, in order: at most nine. Contracts see them as a list. Source:
-/// profile.
+/// The tasks that a tick fired, in order: at most nine. Contracts see them as a list.
 #[derive(Drop)]
 pub struct Fired {
     tasks: ArrayVec<FiredTask, 9>,

@@ -1,7 +1,7 @@
-//! What a student of the landing alarms wants to know about the plain model, as laws: each is the
-//! contract of a function that does nothing. Some are about a single call, on every list of jobs or
-//! of tasks, some about every state that a run of requests reaches, and some about a plan. The
-//! requests, and docs/MODEL.md, say whether the rules come from the listings or from the profile.
+//! Laws of the plain model, for a student of the landing alarms: each is the contract of a function
+//! that does nothing. Some are about a single call, on every list of jobs or of tasks, some about
+//! every state that a run of requests reaches, and some about a plan. The requests, and
+//! docs/MODEL.md, say whether the rules come from the listings or from the profile.
 
 ghost use Rattle.std.specs.Prelude.{◌≡◌, ◌↔◌, ◌≤◌, ℕ, ◌+◌, List, Option, Some, None, IsSome, All};
 ghost use Rattle.std.specs.Prelude.{length, true, [], ◌∷◌};
@@ -103,9 +103,9 @@ pub fn alarm_1202_where_each_number_is_used()
         ↔ (SomeAreaIsUnowned jobs.slots × (living jobs.slots ≡ length jobs.slots)) }
 {}
 
-/// What the eighth core set changes. In every state that a run of requests reaches, NOVAC is
-/// answered by alarm 1202 exactly if there are as many jobs as core sets, seven or eight, and
-/// FINDVAC exactly if, in addition, one of the five areas is not owned.
+/// The eighth core set: in every state that a run of requests reaches, NOVAC is answered by alarm
+/// 1202 exactly if there are as many jobs as core sets, seven or eight, and FINDVAC exactly if, in
+/// addition, one of the five areas is not owned.
 pub fn alarm_1202_with_as_many_jobs_as_sets()
     ensures novac { (plan : Planned) (base : Base) (log : List Request) (priority : ℕ)
         (entry : Entry) → ((step plan (Novac priority entry) (reached plan base log)).reply
@@ -249,9 +249,9 @@ pub fn due_tasks_fire_in_order_of_arrival()
         → FiresThese (due_at (work.agenda.time + 1) ordered) (tick_fires rows work) }
 {}
 
-/// What the faults of a plan are: one task has the rows at two places; one group and phase has the
-/// entries at two places; each of the six groups has an entry with a FINDVAC job, one more than
-/// there are areas.
+/// The faults of a plan: one task has the rows at two places; one group and phase has the entries
+/// at two places; each of the six groups has an entry with a FINDVAC job, one more than there are
+/// areas.
 pub fn faults_of_a_plan()
     ensures task_twice { (rows : Rows) → (task_twice rows ≡ true)
         ↔ HasTwoRows rows }

@@ -1,7 +1,7 @@
 ghost use Rattle.std.specs.Prelude.{◌≡◌, ◌<◌};
 ghost use Rattle.agc_plan.specs.Pulses.{word_of};
 
-/// Whose pulses these are. Source: profile.
+/// Whose pulses these are.
 #[derive(Clone, Copy, PartialEq, Eq, Debug)]
 pub enum Line {
     /// The timer's.
@@ -13,8 +13,7 @@ pub enum Line {
 }
 
 impl Line {
-    /// The place of the line's word, and of its count where there is one for each line. Source:
-    /// profile.
+    /// The place of the line's word, and of its count where there is one for each line.
     pub fn word(self) -> usize
         ensures word { result ≡ word_of self }
         ensures range { result < 3 }

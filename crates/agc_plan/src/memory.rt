@@ -4,7 +4,7 @@ use std::alloc::AllocError;
 use std::error::Error;
 use std::fmt;
 
-/// The allocator refused what a call wants to make. Source: profile.
+/// The allocator refused what a call wants to make.
 #[derive(Clone, Copy, PartialEq, Eq, Debug)]
 pub struct NoMemory;
 

@@ -84,7 +84,7 @@ impl Address {
     }
 }
 
-/// A job's number, 1 to 8: a living job keeps it wherever its core set goes. Source: profile.
+/// A job's number, 1 to 8: a living job keeps it wherever its core set goes.
 #[derive(Clone, Copy, PartialEq, Eq)]
 pub struct JobNo {
     value: u8,
@@ -125,7 +125,7 @@ impl JobNo {
     }
 }
 
-/// A delay of the Waitlist in centiseconds, 1 to 16250. Source: profile.
+/// A delay of the Waitlist in centiseconds, 1 to 16250.
 #[derive(Clone, Copy, PartialEq, Eq)]
 pub struct Delay {
     value: u16,
@@ -205,7 +205,7 @@ impl Group {
     }
 }
 
-/// The phase of a restart group, 0 to 127; 0 is inactive. Source: profile.
+/// The phase of a restart group, 0 to 127; 0 is inactive.
 #[derive(Clone, Copy, PartialEq, Eq)]
 pub struct Phase {
     value: u8,
@@ -245,7 +245,7 @@ impl Phase {
     }
 }
 
-/// The place of a job's work word, 1 to 6: MPAC+1 to MPAC+6. Source: profile.
+/// The place of a job's work word, 1 to 6: MPAC+1 to MPAC+6.
 #[derive(Clone, Copy, PartialEq, Eq)]
 pub struct Place {
     offset: u8,
@@ -285,7 +285,7 @@ impl Place {
     }
 }
 
-/// How many requests a log may hold, 1 to 1,000,000. Source: profile.
+/// How many requests a log may hold, 1 to 1,000,000.
 #[derive(Clone, Copy, PartialEq, Eq)]
 pub struct Limit {
     value: u32,

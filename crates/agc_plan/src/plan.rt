@@ -17,7 +17,6 @@ use std::fmt;
 use std::marker::Model;
 
 /// Why rows and entries make no plan. Of several faults the first in this order is answered.
-/// Source: profile.
 #[derive(Clone, Copy, PartialEq, Eq, Debug)]
 pub enum PlanFault {
     /// The allocator refused room for the rows or for the entries. It may come in place of each
@@ -32,7 +31,7 @@ pub enum PlanFault {
 }
 
 impl PlanFault {
-    /// What the fault is printed as. Source: profile.
+    /// The fault's text in messages.
     pub fn text(self) -> &'static str
         ensures { result.now ≡ plan_fault_text self }
     {
@@ -55,8 +54,8 @@ impl fmt::Display for PlanFault {
 
 impl Error for PlanFault {}
 
-/// What is done when a task fires, when an era begins, and for a key or radar pulse. Contracts see
-/// its rows, its entries, and the actions of both pulses. Source: profile.
+/// The actions of tasks when they fire and of key and radar pulses, and the entries with which an
+/// era begins. Contracts see its rows, its entries, and the actions of both pulses.
 #[derive(Drop)]
 pub struct Plan {
     rows: Vec<(Task, Actions)>,
@@ -128,7 +127,7 @@ fn group_wants(entries: &[PhaseEntry], group: u8) -> bool
     false
 }
 
-/// Whether each of the six groups has such an entry.
+/// Whether each of the six groups has an entry that wants a VAC area.
 fn all_want(entries: &[PhaseEntry]) -> bool
     ensures { result ≡ all_want entries.now }
 {
@@ -140,7 +139,7 @@ fn all_want(entries: &[PhaseEntry]) -> bool
         && group_wants(entries, 6)
 }
 
-/// What is wrong with entries.
+/// The fault of these entries, if they have one.
 fn entries_fault(entries: &[PhaseEntry]) -> Option<PlanFault>
     ensures { result ≡ fault_of [] entries.now }
 {
@@ -153,7 +152,6 @@ fn entries_fault(entries: &[PhaseEntry]) -> Option<PlanFault>
     }
 }
 
-/// The same rows once more.
 fn copied_rows(alloc: Global, rows: &[(Task, Actions)]) -> Result<Vec<(Task, Actions)>, PlanFault>
     ensures copied { IfOk result (λ own. own.items ≡ rows.now) }
     ensures refused { IfErr result (λ fault. fault ≡ PlanFault.NoMemory) }
@@ -297,8 +295,8 @@ impl Plan {
         let _ = &self.rows;
     }
 
-    /// What is done when this task fires, in a plan of one action each: `Nothing` for a task that
-    /// has no row. In a plan with lists it is the first of the task's actions, `Nothing` where
+    /// The action of this task when it fires, in a plan of one action each: `Nothing` for a task
+    /// that has no row. In a plan with lists it is the first of the task's actions, `Nothing` if
     /// there is none.
     pub fn action(&self, task: &Task) -> Action
         ensures { result ≡ first_action (actions_in self.now.rows task.now) }
@@ -306,7 +304,7 @@ impl Plan {
         first_action(self.actions(task))
     }
 
-    /// What is done when this task fires, in order: nothing for a task that has no row.
+    /// The actions of this task when it fires, in order: none for a task that has no row.
     pub fn actions(&self, task: &Task) -> &[Action]
         ensures { result.now ≡ actions_in self.now.rows task.now }
     {
@@ -319,30 +317,30 @@ impl Plan {
         }
     }
 
-    /// What begins again while a group is in a phase. None if the plan has no entry for them.
+    /// The entry that begins again while a group is in a phase. None if the plan has no such entry.
     pub fn entry(&self, group: Group, phase: Phase) -> Option<&PhaseEntry>
         ensures { option_copied result ≡ entry_at self.now.entries group phase }
     {
         entry_at(&self.entries, group, phase)
     }
 
-    /// What is done for a key pulse, in a plan of one action each. In a plan with lists it is the
-    /// first of its actions, `Nothing` where there is none.
+    /// The action of a key pulse, in a plan of one action each. In a plan with lists it is the
+    /// first of the pulse's actions, `Nothing` if there is none.
     pub fn key(&self) -> Action
         ensures { result ≡ first_action self.now.key }
     {
         first_action(self.key_actions())
     }
 
-    /// What is done for a radar pulse, in a plan of one action each. In a plan with lists it is the
-    /// first of its actions, `Nothing` where there is none.
+    /// The action of a radar pulse, in a plan of one action each. In a plan with lists it is the
+    /// first of the pulse's actions, `Nothing` if there is none.
     pub fn radar(&self) -> Action
         ensures { result ≡ first_action self.now.radar }
     {
         first_action(self.radar_actions())
     }
 
-    /// What is done for a key pulse, in order: at most four actions.
+    /// The actions of a key pulse, in order: at most four.
     pub fn key_actions(&self) -> &[Action]
         ensures value { result.now ≡ self.now.key }
         ensures most { length result.now ≤ 4 }
@@ -350,7 +348,7 @@ impl Plan {
         self.key.as_slice()
     }
 
-    /// What is done for a radar pulse, in order: at most four actions.
+    /// The actions of a radar pulse, in order: at most four.
     pub fn radar_actions(&self) -> &[Action]
         ensures value { result.now ≡ self.now.radar }
         ensures most { length result.now ≤ 4 }

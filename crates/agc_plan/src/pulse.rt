@@ -6,7 +6,7 @@ use crate::line::Line;
 use crate::plan::Plan;
 use crate::request::{Action, Request};
 
-/// The request by which an action is asked for; none for [`Action::Nothing`]. Source: profile.
+/// The request by which an action is asked for; none for [`Action::Nothing`].
 pub fn action_request(action: Action) -> Option<Request>
     ensures { result ≡ action_request action }
 {
@@ -35,8 +35,8 @@ fn request_after(actions: &[Action], others: u64) -> Option<Request>
     None
 }
 
-/// What a pulse of a line asks for after so many others of its requests: the timer's asks for a
-/// tick, the others' for the plan's actions in order; none after the last. Source: profile.
+/// The next request of a pulse, after this many others of it: a tick for the timer's, and for the
+/// other lines the plan's actions in order; None after the last.
 pub fn pulse_request(plan: &Plan, line: Line, others: u64) -> Option<Request>
     ensures request { (sets : ℕ)
         → result ≡ slice_get (pulse_requests (planned_with plan.now sets) line) others }

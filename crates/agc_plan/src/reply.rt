@@ -29,8 +29,8 @@ pub enum Code {
     C1203,
 }
 
-/// What a request is answered, but for the tasks that fired in a tick. It is small: what fired goes
-/// into a list that the caller lends. Source: profile.
+/// The reply to a request, without the tasks that fired in a tick: those go into a list that the
+/// caller lends, so that a reply is small.
 #[derive(Clone, Copy, PartialEq, Eq)]
 pub enum Reply {
     /// A job with this number was established.

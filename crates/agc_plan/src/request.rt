@@ -26,7 +26,7 @@ pub struct Task {
     pub bank: Word,
 }
 
-/// What a plan has done when a task fires, or for a key or radar pulse. Source: profile.
+/// An action of a plan, for a task that fires, or for a key or radar pulse.
 #[derive(Clone, Copy, PartialEq, Eq)]
 pub enum Action {
     /// Nothing is done.
@@ -41,7 +41,7 @@ pub enum Action {
     List(Delay, Task),
 }
 
-/// How the job of a phase is established: without a VAC area, or with one. Source: profile.
+/// How the job of a phase is established: without a VAC area, or with one.
 #[derive(Clone, Copy, PartialEq, Eq)]
 pub enum JobStart {
     /// Without a VAC area, of this priority.
@@ -50,7 +50,7 @@ pub enum JobStart {
     Findvac(Priority, Entry),
 }
 
-/// What may be asked of the machine. Source: at each request.
+/// A request to the machine. Source: at each request.
 #[derive(Clone, Copy, PartialEq, Eq)]
 pub enum Request {
     /// Establish a job without a VAC area, of this priority. Source: the listings' EXECUTIVE
@@ -68,7 +68,7 @@ pub enum Request {
     Prio(Priority),
     /// Change to a strictly more urgent job, if one is awake.
     Change,
-    /// Set one work word of the running job. Source: profile.
+    /// Set one work word of the running job.
     Store(Place, Word),
     /// List a task, due this many centiseconds from now. Source: the listings' WAITLIST section.
     List(Delay, Task),
@@ -143,8 +143,8 @@ impl Request {
     }
 }
 
-/// What begins again with a restart while a group is in a phase: a job, a task, both or neither.
-/// Contracts see its four parts. Source: profile.
+/// An entry of a plan: a job, a task, both or neither, which begin again with a restart while a
+/// group is in a phase. Contracts see its four parts.
 #[derive(Clone, Copy, PartialEq, Eq)]
 pub struct PhaseEntry {
     group: Group,

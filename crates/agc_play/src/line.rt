@@ -1,56 +1,56 @@
-//! What a line asks for, and what is said of one that asks for nothing.
-use agc_check::{LineFault, LineFinding, script_findings, script_told};
+//! The command on a line, and the message about a line that has none.
+use agc_check::{LineFault, LineFinding, script_findings, script_messages};
 use agc_plan::Request;
-use agc_text::Filling::{Number, Text};
-use agc_text::{Draft, parse_line};
+use agc_text::Field::{Number, Text};
+use agc_text::{Buffer, parse_line};
 use std::alloc::{AllocError, Global};
 
-/// How many ticks may be asked for at once.
+/// The most ticks that one line can ask for.
 const MOST_TICKS: u32 = 1_000_000;
 
-/// What a line asks for.
+/// The command on a line.
 #[derive(Clone, Copy)]
-pub(crate) enum Asked<'a> {
-    /// This request, so many times.
+pub(crate) enum PlayCommand<'a> {
+    /// This request, this many times.
     Request(Request, u32),
     Undo,
     Show,
-    /// The bench that this has come to is written to a file of this name.
+    /// Write the bench so far to a file of this name.
     Save(&'a str),
     Help,
     Nothing,
 }
 
-/// So many ticks.
-fn ticks_of(text: &str) -> Asked<'_> {
+/// A number of ticks.
+fn ticks_of(text: &str) -> PlayCommand<'_> {
     let is_decimal = text.as_bytes().iter().all(u8::is_ascii_digit);
     match text.parse::<u32>() {
         Ok(count) if is_decimal && 0 < count && count <= MOST_TICKS => {
-            Asked::Request(Request::Tick, count)
+            PlayCommand::Request(Request::Tick, count)
         }
-        _ => Asked::Nothing,
+        _ => PlayCommand::Nothing,
     }
 }
 
-/// What a line asks for that is no request.
-fn command_of(line: &str) -> Asked<'_> {
+/// The command on a line that is no request.
+fn command_of(line: &str) -> PlayCommand<'_> {
     match line.split_once(' ').unwrap_or((line, "")) {
         ("tick", rest) => ticks_of(rest),
-        ("save", "") => Asked::Nothing,
-        ("save", name) => Asked::Save(name),
+        ("save", "") => PlayCommand::Nothing,
+        ("save", name) => PlayCommand::Save(name),
         _ => match line {
-            "undo" => Asked::Undo,
-            "show" => Asked::Show,
-            "help" => Asked::Help,
-            _ => Asked::Nothing,
+            "undo" => PlayCommand::Undo,
+            "show" => PlayCommand::Show,
+            "help" | "?" => PlayCommand::Help,
+            _ => PlayCommand::Nothing,
         },
     }
 }
 
-/// What a line asks for, which comes without its end.
-pub(crate) fn asked_by(line: &str) -> Asked<'_> {
+/// The command on a line, which comes without its line end.
+pub(crate) fn parse_command(line: &str) -> PlayCommand<'_> {
     match parse_line(line) {
-        Some(request) => Asked::Request(request, 1),
+        Some(request) => PlayCommand::Request(request, 1),
         None => command_of(line),
     }
 }
@@ -64,7 +64,7 @@ fn fault_of(alloc: Global, line: &str) -> Result<LineFault, AllocError> {
     }
 }
 
-/// What is said of a line whose first word is a command's, if it is.
+/// The form of the command that begins with the line's first word, if there is one.
 fn form_of(line: &str) -> Option<&'static str> {
     let (word, _rest) = line.split_once(' ').unwrap_or((line, ""));
     match word {
@@ -78,9 +78,9 @@ fn form_of(line: &str) -> Option<&'static str> {
     }
 }
 
-/// Says this of the line of this number.
-pub(crate) fn tell_line(draft: &mut Draft, number: u64, sentence: &str) {
-    draft.put("line {}: {}\n", &[Number(number), Text(sentence)]);
+/// Adds a sentence about the line of this number.
+pub(crate) fn tell_line(buffer: &mut Buffer, number: u64, sentence: &str) {
+    buffer.put("line {}: {}\n", &[Number(number), Text(sentence)]);
 }
 
 /// Says of a line, which may have been meant as a request, what `check --script` says; and where no
@@ -88,32 +88,32 @@ pub(crate) fn tell_line(draft: &mut Draft, number: u64, sentence: &str) {
 fn tell_fault(
     alloc: Global,
     finding: LineFinding<'_>,
-    draft: &mut Draft,
+    buffer: &mut Buffer,
 ) -> Result<(), AllocError> {
     let is_unknown = matches!(finding.fault, LineFault::Unknown(_));
-    let told = script_told(alloc, &[finding])?;
-    draft.text(told.as_str());
+    let told = script_messages(alloc, "line ", &[finding])?;
+    buffer.text(told.as_str());
     if is_unknown {
-        draft.text("help says what else a line may be\n");
+        buffer.text("help says what else a line may be\n");
     }
     Ok(())
 }
 
-/// Says what is wrong with a line that asks for nothing, by its number.
+/// Adds what is wrong with a line that is no command, by its number.
 pub(crate) fn tell_wrong(
     alloc: Global,
     number: u64,
     text: &str,
-    draft: &mut Draft,
+    buffer: &mut Buffer,
 ) -> Result<(), AllocError> {
     if let Some(form) = form_of(text) {
-        tell_line(draft, number, form);
+        tell_line(buffer, number, form);
         return Ok(());
     }
     match fault_of(alloc, text)? {
         LineFault::OfBench => {
             let sentence = "this is a line of a bench; agc_watch play FILE begins from a bench";
-            tell_line(draft, number, sentence);
+            tell_line(buffer, number, sentence);
             Ok(())
         }
         fault => {
@@ -122,7 +122,7 @@ pub(crate) fn tell_wrong(
                 text,
                 fault,
             };
-            tell_fault(alloc, finding, draft)
+            tell_fault(alloc, finding, buffer)
         }
     }
 }

@@ -1,4 +1,4 @@
-//! The machine that is played with, and what the player sees of it.
+//! The machine of a play, and what the player sees of it.
 ghost use Rattle.std.specs.Prelude.{◌≡◌, IfOk};
 ghost use Rattle.std.specs.List.{fold};
 ghost use Rattle.agc_scene.specs.Events.{watched, watching_from};
@@ -9,45 +9,45 @@ use agc_exec::Seat;
 use agc_machine::{Machine, Refusal};
 use agc_phase::code_word;
 use agc_plan::{Reply, Request};
-use agc_run::{Asks, Source, WatchedRun};
-use agc_scene::{Event, Scene, Watched};
+use agc_run::{ObservedRun, PendingRequests, Source};
+use agc_scene::{Event, ObservedMachine, Scene};
 use agc_session::{RunFault, machine_of};
-use agc_text::Filling::{Number, Octal, Priority, Text};
-use agc_text::{Draft, Output};
-use agc_trace::{Choice, Columns, Form, Rows};
+use agc_text::Field::{Number, Octal, Priority, Text};
+use agc_text::{Buffer, Output};
+use agc_trace::{Columns, Rows, TraceFormat, TraceOptions};
 use std::alloc::{AllocError, Global};
 use std::io::Write;
 use std::marker::Model;
 
-/// What came of a request, beside its row.
+/// The outcome of a request, beside its row.
 #[derive(Clone, Copy)]
-pub(crate) enum Came {
+pub(crate) enum Effect {
     /// There is nothing more to say.
     Served,
-    /// It was a tick in which nothing happened.
+    /// A tick in which nothing happened.
     Quiet,
-    /// An era began without an alarm, of which the row has no tables.
+    /// An era began without an alarm, so that the row has no tables.
     Begun,
     Refused(Refusal),
 }
 
 /// The number of the last request, the time after it in the era and since the start, in
-/// centiseconds, and what came of it.
+/// centiseconds, and its outcome.
 #[derive(Clone, Copy)]
-struct Last {
+struct LastRequest {
     number: u64,
     time: u64,
     total: u64,
-    came: Came,
+    effect: Effect,
 }
 
-/// The machine that is played with, the rows of what is asked of it, and what is kept of the last
-/// request. Contracts see the machine. Source: profile.
+/// The machine of a play, the rows of its requests, and the last request. Contracts see the
+/// machine.
 #[derive(Drop)]
 pub(crate) struct Player {
-    watched: Watched,
+    watched: ObservedMachine,
     rows: Rows,
-    last: Last,
+    last: LastRequest,
 }
 
 impl Model for Player {
@@ -58,45 +58,45 @@ impl Model for Player {
     ghost view = { λ p. p.watched };
 }
 
-/// What came of an event, beside its row.
-fn came_of(event: &Event) -> Came {
+/// The outcome of an event, beside its row.
+fn effect_of(event: &Event) -> Effect {
     match &event.answer {
-        Err(refusal) => Came::Refused(*refusal),
-        Ok(Reply::Ticked(None)) if event.fired.len() == 0 => Came::Quiet,
-        Ok(_reply) if event.era.is_some() && event.alarm().is_none() => Came::Begun,
-        Ok(_reply) => Came::Served,
+        Err(refusal) => Effect::Refused(*refusal),
+        Ok(Reply::Ticked(None)) if event.fired.len() == 0 => Effect::Quiet,
+        Ok(_reply) if event.era.is_some() && event.alarm().is_none() => Effect::Begun,
+        Ok(_reply) => Effect::Served,
     }
 }
 
-/// What is kept of an event.
-fn last_of(event: &Event) -> Last {
-    Last {
+/// The part of an event that is kept.
+fn last_of(event: &Event) -> LastRequest {
+    LastRequest {
         number: event.number,
         time: if event.era.is_some() { 0 } else { event.time },
         total: event.total,
-        came: came_of(event),
+        effect: effect_of(event),
     }
 }
 
-/// This machine, of which nothing was asked, after these requests, and what is kept of the last.
-fn replayed(machine: Machine, requests: &[Request]) -> (Watched, Last)
+/// A new machine after these requests, and the last of them.
+fn replay(machine: Machine, requests: &[Request]) -> (ObservedMachine, LastRequest)
     ensures { result.0 ≡ fold watched (watching_from machine) requests.now }
 {
-    let mut last = Last {
+    let mut last = LastRequest {
         number: 0,
         time: 0,
         total: 0,
-        came: Came::Served,
+        effect: Effect::Served,
     };
-    let mut run = WatchedRun::new(machine, Asks::of_script(requests));
+    let mut run = ObservedRun::new(machine, PendingRequests::of_script(requests));
     while let Some((_source, event)) = run.next() {
         last = last_of(&event);
     }
     (run.into_watched(), last)
 }
 
-/// Adds what a core set holds.
-fn put_seat(draft: &mut Draft, k: usize, seat: Seat) {
+/// Adds the job of a core set.
+fn put_seat(buffer: &mut Buffer, k: usize, seat: Seat) {
     let fillings = [
         Number(k as u64),
         Number(u64::from(seat.number)),
@@ -104,37 +104,37 @@ fn put_seat(draft: &mut Draft, k: usize, seat: Seat) {
         Text(if seat.asleep { "asleep at" } else { "at" }),
         Octal(seat.at),
     ];
-    draft.put("    set {}: job {}, priority {}, {} {}", &fillings);
+    buffer.put("    set {}: job {}, priority {}, {} {}", &fillings);
     if seat.area > 0 {
-        draft.fill(", area ", Number(u64::from(seat.area)));
+        buffer.fill(", area ", Number(u64::from(seat.area)));
     }
-    draft.text("\n");
+    buffer.text("\n");
 }
 
-/// Adds which job is running, and what the core sets hold.
-fn put_jobs(draft: &mut Draft, scene: &Scene) {
+/// Adds which job is running, and the job in each core set.
+fn put_jobs(buffer: &mut Buffer, scene: &Scene) {
     match scene.running() {
-        None => draft.text("    no job is running\n"),
-        Some(number) => draft.put(
+        None => buffer.text("    no job is running\n"),
+        Some(number) => buffer.put(
             "    job {} is running\n",
             &[Number(u64::from(number.get()))],
         ),
     }
-    if let Some(number) = scene.named() {
-        draft.put(
+    if let Some(number) = scene.next_job() {
+        buffer.put(
             "    NEWJOB names job {}, which is more urgent\n",
             &[Number(u64::from(number))],
         );
     }
     for (k, seat) in scene.seats().iter().enumerate() {
         if let Some(seat) = *seat {
-            put_seat(draft, k, seat);
+            put_seat(buffer, k, seat);
         }
     }
 }
 
 /// Adds how many core sets and areas are free.
-fn put_free(draft: &mut Draft, scene: &Scene) {
+fn put_free(buffer: &mut Buffer, scene: &Scene) {
     let seats = scene.seats();
     let free = seats.iter().filter(|seat| seat.is_none()).count();
     let areas = (1..6u16)
@@ -145,40 +145,40 @@ fn put_free(draft: &mut Draft, scene: &Scene) {
         Number(seats.len() as u64),
         Number(areas as u64),
     ];
-    draft.put(
+    buffer.put(
         "    {} of {} core sets and {} of 5 VAC areas are free\n",
         &fillings,
     );
 }
 
 /// Adds the tasks that wait, the phases and the codes.
-fn put_rest(draft: &mut Draft, scene: &Scene) {
+fn put_rest(buffer: &mut Buffer, scene: &Scene) {
     if scene.waits().is_empty() {
-        draft.text("    no task waits\n");
+        buffer.text("    no task waits\n");
     }
     for wait in scene.waits() {
         let (at, bank) = (wait.task.at.get(), wait.task.bank.bits());
         let distance = Number(u64::from(wait.distance));
-        draft.put(
+        buffer.put(
             "    task {}/{}, due in {} cs\n",
             &[Octal(at), Octal(bank), distance],
         );
     }
-    draft.text("    phases");
+    buffer.text("    phases");
     for phase in scene.phases() {
-        draft.fill(" ", Number(u64::from(phase.get())));
+        buffer.fill(" ", Number(u64::from(phase.get())));
     }
-    draft.text("\n    FAILREG");
+    buffer.text("\n    FAILREG");
     for code in scene.codes() {
-        draft.fill(" ", Octal(code_word(code).bits()));
+        buffer.fill(" ", Octal(code_word(code).bits()));
     }
-    draft.text("\n");
+    buffer.text("\n");
 }
 
 /// The rows of all requests; on a terminal each is followed by its tables.
 fn rows_of(alloc: Global, folds: bool) -> Result<Rows, AllocError> {
-    let choice = Choice {
-        form: Form::Lines,
+    let choice = TraceOptions {
+        form: TraceFormat::Lines,
         alarms: false,
         from: None,
         to: None,
@@ -205,7 +205,7 @@ impl Player {
     {
         let rows = rows_of(alloc, folds)?;
         let machine = machine_of(alloc, bench)?;
-        let (watched, last) = replayed(machine, requests);
+        let (watched, last) = replay(machine, requests);
         Ok(Player {
             watched,
             rows,
@@ -221,7 +221,7 @@ impl Player {
     pub(crate) fn put_heading(&mut self, alloc: Global, bench: &Bench) -> Result<(), RunFault>
         ensures { self.new ≡ self.old }
     {
-        let first = Watched::new(machine_of(alloc, bench)?);
+        let first = ObservedMachine::new(machine_of(alloc, bench)?);
         self.rows.begin(&first, Some(bench));
         Ok(())
     }
@@ -230,7 +230,7 @@ impl Player {
     ///
     /// # Errors
     ///
-    /// Where a write fails.
+    /// If a write fails.
     pub(crate) fn send<W: Write>(&mut self, writer: &mut W) -> Result<(), Output>
         ensures { self.new ≡ self.old }
     {
@@ -244,36 +244,36 @@ impl Player {
     {
         let event = self.watched.ask(request);
         self.last = last_of(&event);
-        if is_told || !matches!(self.last.came, Came::Quiet) {
+        if is_told || !matches!(self.last.effect, Effect::Quiet) {
             let source = Source::Bench(agc_session::Source::Script);
             self.rows.add(&self.watched, source, &event);
         }
     }
 
-    /// What came of the last request.
-    pub(crate) fn came(&self) -> Came {
-        self.last.came
+    /// The outcome of the last request.
+    pub(crate) fn effect(&self) -> Effect {
+        self.last.effect
     }
 
     /// Adds all that is shown of the state: after which request, when, and the tables.
-    pub(crate) fn put_state(&self, draft: &mut Draft, bench: &Bench) {
-        let Last {
+    pub(crate) fn put_state(&self, buffer: &mut Buffer, bench: &Bench) {
+        let LastRequest {
             number,
             time,
             total,
             ..
         } = self.last;
-        draft.put(
+        buffer.put(
             "after request {}: time {} of the era, {} in all\n",
             &[Number(number), Number(time), Number(total)],
         );
         let scene = self.watched.scene();
-        put_jobs(draft, &scene);
-        put_free(draft, &scene);
-        put_rest(draft, &scene);
+        put_jobs(buffer, &scene);
+        put_free(buffer, &scene);
+        put_rest(buffer, &scene);
         let stored = u64::from(self.watched.machine().log_len());
         let limit = u64::from(bench.limit().get());
-        draft.put(
+        buffer.put(
             "    the log has {} of {} requests\n",
             &[Number(stored), Number(limit)],
         );

@@ -1,14 +1,14 @@
 //! The play: a line is read, and answered, before the next one is read.
 ghost use Rattle.std.specs.Prelude.{◌≡◌, ◌++◌, ◌∷◌, [], OnOk};
 
-use crate::line::{Asked, asked_by, tell_line, tell_wrong};
-use crate::player::{Came, Player};
+use crate::line::{PlayCommand, parse_command, tell_line, tell_wrong};
+use crate::player::{Effect, Player};
 use agc_document::{Bench, put_bench};
 use agc_machine::Refusal;
 use agc_plan::Request;
-use agc_session::{RunFault, Walk, written};
-use agc_text::Filling::{Number, Text};
-use agc_text::{Draft, MOST_BYTES, Output, Pen};
+use agc_session::{RunFault, Walk, write_result};
+use agc_text::Field::{Number, Text};
+use agc_text::{Buffer, MOST_BYTES, Output, TextWriter};
 use std::alloc::{AllocError, Global};
 use std::fs;
 use std::io::{BufRead, ErrorKind, Read, Write};
@@ -25,8 +25,8 @@ A line is a request, as in a script, or one of these:
     undo       takes back what the last line asked
     show       shows the state: jobs, areas, tasks, phases, FAILREG, the log
     save NAME  writes a file: a bench that asks all that was asked
-    help       shows this
-    quit       ends, as Ctrl-D does
+    help, ?    shows this
+    quit, q    ends, as exit and Ctrl-D do
 The requests:
     novac P A W     a job of priority P at address A in bank W
     findvac P A W   the same with a VAC area
@@ -43,16 +43,16 @@ P is octal, 01 to 37. A and W are five octal digits. The others are decimal.
 ";
 
 /// How answers are shown: on a terminal there is a prompt, and the tables of a row are listed below
-/// it. Source: profile.
+/// it.
 #[derive(Clone, Copy)]
-pub struct Manner {
+pub struct PlayOptions {
     /// Whether a prompt is written on standard error.
     pub prompts: bool,
     /// Rows are folded, so that they fit a terminal.
     pub folds: bool,
 }
 
-/// Why play ended early. Source: profile.
+/// Why play ended early.
 #[derive(Clone, Copy, Debug, PartialEq, Eq)]
 pub enum PlayFault {
     NoMemory,
@@ -85,21 +85,20 @@ fn requests_of(alloc: Global, bench: &Bench) -> Result<Vec<Request>, AllocError>
 
 /// A play: where files are written, the bench that it began from, all that was asked, from the
 /// bench's own requests on, how many were asked before each line that asked for some, the machine,
-/// what is told next, behind its rows, and how. Contracts see what was asked; the machine is what
+/// what is told next, after its rows, and how. Contracts see what was asked; the machine is what
 /// the bench's comes to by that.
-/// Source: profile.
 #[derive(Drop)]
-struct Played<'a> {
+struct PlaySession<'a> {
     rt: &'a HostRuntime,
     bench: &'a Bench,
     requests: Vec<Request>,
     steps: Vec<usize>,
     player: Player,
-    draft: Draft,
-    manner: Manner,
+    buffer: Buffer,
+    options: PlayOptions,
 }
 
-impl<'a> Model for Played<'a> {
+impl<'a> Model for PlaySession<'a> {
     ghost use Rattle.std.specs.Prelude.{◌≡◌, List};
     ghost use Rattle.std.specs.List.{fold};
     ghost use Rattle.agc_plan.specs.declared.request.Request.{Request};
@@ -115,13 +114,13 @@ impl<'a> Model for Played<'a> {
 }
 
 /// Adds that a request was refused, and the number that it came to.
-fn put_refusal(draft: &mut Draft, bench: &Bench, refusal: Refusal) {
+fn put_refusal(buffer: &mut Buffer, bench: &Bench, refusal: Refusal) {
     match refusal {
-        Refusal::LogFull => draft.put(
+        Refusal::LogFull => buffer.put(
             "        the log is full (limit {}): only restart and fresh are served\n",
             &[Number(u64::from(bench.limit().get()))],
         ),
-        Refusal::Spent => draft.put(
+        Refusal::Spent => buffer.put(
             "        spent (allowance {}): nothing more is served\n",
             &[Number(bench.allowance())],
         ),
@@ -131,7 +130,7 @@ fn put_refusal(draft: &mut Draft, bench: &Bench, refusal: Refusal) {
 /// A bench of the same machine as another's, whose script is these requests.
 fn bench_of(alloc: Global, bench: &Bench, requests: &[Request]) -> Result<Vec<u8>, RunFault> {
     let mut text = Vec::new(alloc);
-    let mut pen = Pen::new(&mut text);
+    let mut pen = TextWriter::new(&mut text);
     put_bench(&mut pen, bench, requests);
     match pen.end() {
         Ok(()) => Ok(text),
@@ -139,35 +138,39 @@ fn bench_of(alloc: Global, bench: &Bench, requests: &[Request]) -> Result<Vec<u8
     }
 }
 
-impl<'a> Played<'a> {
+impl<'a> PlaySession<'a> {
     /// A play that goes on where the bench ends.
-    fn new(rt: &'a HostRuntime, bench: &'a Bench, manner: Manner) -> Result<Played<'a>, RunFault> {
+    fn new(
+        rt: &'a HostRuntime,
+        bench: &'a Bench,
+        options: PlayOptions,
+    ) -> Result<PlaySession<'a>, RunFault> {
         let alloc = rt.alloc();
         let requests = requests_of(alloc, bench)?;
-        let draft = Draft::new(alloc)?;
-        let player = Player::after(alloc, bench, requests.as_slice(), manner.folds)?;
-        Ok(Played {
+        let buffer = Buffer::new(alloc)?;
+        let player = Player::after(alloc, bench, requests.as_slice(), options.folds)?;
+        Ok(PlaySession {
             rt,
             bench,
             requests,
             steps: Vec::new(alloc),
             player,
-            draft,
-            manner,
+            buffer,
+            options,
         })
     }
 
-    /// Writes the rows that were added, and what is told behind them.
+    /// Writes the rows that were added, and what is told after them.
     fn send<W: Write>(&mut self, writer: &mut W) -> Result<(), Output>
         ensures { self.new ≡ self.old }
     {
         self.player.send(writer)?;
-        self.draft.send(writer)
+        self.buffer.send(writer)
     }
 
     /// Adds the state.
     fn put_state(&mut self) {
-        self.player.put_state(&mut self.draft, self.bench);
+        self.player.put_state(&mut self.buffer, self.bench);
     }
 
     /// Adds the heading, what came of power-up, and where the bench's own requests ended.
@@ -179,7 +182,7 @@ impl<'a> Played<'a> {
             1 => "{} request was asked by the bench\n",
             _ => "{} requests were asked by the bench\n",
         };
-        self.draft.put(words, &[Number(count as u64)]);
+        self.buffer.put(words, &[Number(count as u64)]);
         self.put_state();
         Ok(())
     }
@@ -190,15 +193,15 @@ impl<'a> Played<'a> {
     {
         self.requests.push(*request)?;
         self.player.ask(request, is_told);
-        match self.player.came() {
-            Came::Served | Came::Quiet => {}
-            Came::Begun => self.player.put_state(&mut self.draft, self.bench),
-            Came::Refused(refusal) => put_refusal(&mut self.draft, self.bench, refusal),
+        match self.player.effect() {
+            Effect::Served | Effect::Quiet => {}
+            Effect::Begun => self.player.put_state(&mut self.buffer, self.bench),
+            Effect::Refused(refusal) => put_refusal(&mut self.buffer, self.bench, refusal),
         }
         Ok(())
     }
 
-    /// Asks for a request so many times, up to one that is refused.
+    /// Asks for a request this many times, up to one that is refused.
     fn ask_times<W: Write>(
         &mut self,
         request: &Request,
@@ -209,7 +212,7 @@ impl<'a> Played<'a> {
         for number in 1..=times {
             self.ask(request, number == times)?;
             self.send(writer)?;
-            if matches!(self.player.came(), Came::Refused(_)) {
+            if matches!(self.player.effect(), Effect::Refused(_)) {
                 return Ok(());
             }
         }
@@ -226,7 +229,7 @@ impl<'a> Played<'a> {
     }
 
     /// How many requests the last line asked, or else one, that of the bench, if there is one.
-    fn asked_last(&self) -> usize {
+    fn last_request_count(&self) -> usize {
         let count = self.requests.len();
         match self.steps.as_slice() {
             [.., step] => count.saturating_sub(*step),
@@ -234,11 +237,11 @@ impl<'a> Played<'a> {
         }
     }
 
-    /// Takes back so many requests.
+    /// Takes back this many requests.
     fn go_back(&mut self, taken: usize) -> Result<(), RunFault> {
         let left = self.requests.len().saturating_sub(taken);
         let requests = &self.requests.as_slice()[..left];
-        let player = Player::after(self.rt.alloc(), self.bench, requests, self.manner.folds)?;
+        let player = Player::after(self.rt.alloc(), self.bench, requests, self.options.folds)?;
         self.player = player;
         self.requests.truncate(left);
         Ok(())
@@ -246,7 +249,7 @@ impl<'a> Played<'a> {
 
     /// Takes back what the last line asked, or the last request of the bench.
     fn undo(&mut self) -> Result<(), RunFault> {
-        let taken = self.asked_last();
+        let taken = self.last_request_count();
         if taken > 0 {
             self.go_back(taken)?;
         }
@@ -257,9 +260,9 @@ impl<'a> Played<'a> {
             _ => "{} requests are taken back\n",
         };
         if taken == 0 {
-            self.draft.text(words);
+            self.buffer.text(words);
         } else {
-            self.draft.put(words, &[Number(taken as u64)]);
+            self.buffer.put(words, &[Number(taken as u64)]);
             self.put_state();
         }
         Ok(())
@@ -276,41 +279,41 @@ impl<'a> Played<'a> {
                 Number(MOST_BYTES as u64),
             ];
             let words = "{}: not written: it would have {} bytes, and agc reads {}\n";
-            self.draft.put(words, &sizes);
+            self.buffer.put(words, &sizes);
         } else if let Err(error) = fs::write(rt, name, text.as_slice()) {
             let told = format!(in rt.alloc(); "{name}: not written: {error}\n")?;
-            self.draft.text(told.as_str());
+            self.buffer.text(told.as_str());
         } else {
             let ending = if count == 1 { "" } else { "s" };
             let told = [Text(name), Number(count as u64), Text(ending)];
-            self.draft.put("{}: a bench of {} request{}\n", &told);
+            self.buffer.put("{}: a bench of {} request{}\n", &told);
         }
         Ok(())
     }
 
     /// Does what a line asks for, of this number.
     fn serve<W: Write>(&mut self, number: u64, line: &str, writer: &mut W) -> Result<(), RunFault> {
-        match asked_by(line) {
-            Asked::Request(request, times) => return self.ask_times(&request, times, writer),
-            Asked::Undo => return self.undo(),
-            Asked::Show => self.put_state(),
-            Asked::Save(name) => return self.save(name),
-            Asked::Help => self.draft.text(HELP),
-            Asked::Nothing => tell_wrong(self.rt.alloc(), number, line, &mut self.draft)?,
+        match parse_command(line) {
+            PlayCommand::Request(request, times) => return self.ask_times(&request, times, writer),
+            PlayCommand::Undo => return self.undo(),
+            PlayCommand::Show => self.put_state(),
+            PlayCommand::Save(name) => return self.save(name),
+            PlayCommand::Help => self.buffer.text(HELP),
+            PlayCommand::Nothing => tell_wrong(self.rt.alloc(), number, line, &mut self.buffer)?,
         }
         Ok(())
     }
 
     /// Ends an answer with this text, and writes and flushes it.
     fn end_answer<W: Write>(&mut self, text: &str, writer: &mut W) -> Result<(), RunFault> {
-        self.draft.text(text);
+        self.buffer.text(text);
         self.send(writer)?;
-        Ok(written(writer.flush())?)
+        Ok(write_result(writer.flush())?)
     }
 
     /// Says on standard error that a line is waited for, if that is wanted.
     fn prompt(&self, text: &str) {
-        if self.manner.prompts {
+        if self.options.prompts {
             let _ = eprint!(self.rt; "{text}");
         }
     }
@@ -336,14 +339,14 @@ fn text_of(line: &[u8]) -> Option<&str> {
 
 /// Answers a line of this number, which is this text.
 fn answer<W: Write>(
-    played: &mut Played<'_>,
+    played: &mut PlaySession<'_>,
     (number, text): (u64, Option<&str>),
     writer: &mut W,
 ) -> Result<(), RunFault> {
     let served = match text {
         Some(text) => played.serve(number, text, writer),
         None => {
-            tell_line(&mut played.draft, number, "not text");
+            tell_line(&mut played.buffer, number, "not text");
             Ok(())
         }
     };
@@ -359,7 +362,7 @@ fn answer<W: Write>(
 
 /// Reads the next line, of this number, and answers it. Returns whether further ones are read.
 fn answer_next<R: BufRead, W: Write>(
-    played: &mut Played<'_>,
+    played: &mut PlaySession<'_>,
     number: u64,
     reader: &mut R,
     writer: &mut W,
@@ -371,8 +374,8 @@ fn answer_next<R: BufRead, W: Write>(
         return Ok(false);
     }
     match text_of(line.as_slice()) {
-        Some("quit") => Ok(false),
-        Some("") if played.manner.prompts => Ok(true),
+        Some("quit" | "exit" | "q") => Ok(false),
+        Some("") if played.options.prompts => Ok(true),
         text => {
             answer(played, (number, text), writer)?;
             Ok(true)
@@ -382,7 +385,7 @@ fn answer_next<R: BufRead, W: Write>(
 
 /// Begins, and answers each line before the next one is read.
 fn answer_all<R: BufRead, W: Write>(
-    played: &mut Played<'_>,
+    played: &mut PlaySession<'_>,
     reader: &mut R,
     writer: &mut W,
 ) -> Result<(), PlayFault> {
@@ -399,7 +402,6 @@ fn answer_all<R: BufRead, W: Write>(
 
 /// Answers requests on a bench's machine, starting where the bench's own requests end. Each line is
 /// answered, and the answer flushed, before the next line is read. Returns at the end of the input.
-/// Source: profile.
 ///
 /// # Errors
 ///
@@ -408,9 +410,9 @@ fn answer_all<R: BufRead, W: Write>(
 pub fn play<R: BufRead, W: Write>(
     rt: &HostRuntime,
     bench: &Bench,
-    manner: Manner,
+    options: PlayOptions,
     reader: &mut R,
     writer: &mut W,
 ) -> Result<(), PlayFault> {
-    answer_all(&mut Played::new(rt, bench, manner)?, reader, writer)
+    answer_all(&mut PlaySession::new(rt, bench, options)?, reader, writer)
 }

@@ -1,7 +1,7 @@
 -- The exit statuses.
 use Rattle.std.specs.Prelude.{ℕ, Result, Ok, Err}
-use Rattle.agc_program.specs.declared.fault.Fault.{Fault}
-use Rattle.agc_program.specs.declared.fault.Fault.TheVariants as fault
+use Rattle.agc_program.specs.declared.fault.ProgramFault.{ProgramFault}
+use Rattle.agc_program.specs.declared.fault.ProgramFault.TheVariants as fault
 use Rattle.agc_text.specs.declared.fault.ReadFault.TheVariants as read
 use Rattle.agc_text.specs.declared.fault.ScriptFault.TheVariants as script
 use Rattle.agc_document.specs.declared.fault.BenchFault.TheVariants as bench
@@ -9,7 +9,7 @@ use Rattle.agc_session.specs.declared.run_fault.RunFault.TheVariants as run
 
 -- 1: input that is refused; 2: the words; 3: want of memory or of a thread; 4: a read or write that
 -- failed; 5: lost shares
-abbrev pub status_of : Fault → ℕ
+abbrev pub status_of : ProgramFault → ℕ
 status_of fault.Words = 2
 status_of fault.NoMemory = 3
 status_of fault.Output = 4
@@ -25,7 +25,7 @@ status_of (fault.Run run.NoThread) = 3
 status_of (fault.Run run.Output) = 4
 status_of (fault.Run run.Lost) = 5
 
--- 0 where there was no fault
-abbrev pub status_after : Result Unit Fault → ℕ
+-- 0 if there was no fault
+abbrev pub status_after : Result Unit ProgramFault → ℕ
 status_after (Ok done) = 0
 status_after (Err why) = status_of why

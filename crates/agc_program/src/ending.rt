@@ -1,15 +1,15 @@
 //! How a program ends.
 ghost use Rattle.std.specs.Prelude.{◌≡◌, Some};
 ghost use Rattle.std.specs.Process.{exit_status};
-ghost use Rattle.agc_program.specs.Messages.{fault_text, told_text};
+ghost use Rattle.agc_program.specs.Messages.{fault_text, error_line};
 ghost use Rattle.agc_program.specs.Statuses.{status_after};
 
-use crate::fault::Fault;
+use crate::fault::ProgramFault;
 use std::fmt;
 use std::io::Eprint;
 use std::process::ExitCode;
 
-/// What a program is called, and what it says to words that it doesn't take.
+/// The program's name, and its message about words that it doesn't take.
 #[derive(Clone, Copy)]
 pub struct Program {
     pub name: &'static str,
@@ -20,12 +20,12 @@ pub struct Program {
 #[derive(Clone, Copy)]
 pub struct FaultLine {
     pub program: Program,
-    pub fault: Fault,
+    pub fault: ProgramFault,
 }
 
 impl fmt::Display for FaultLine {
     ghost output = { λ told.
-        Some (told_text told.program.name.now told.program.usage.now told.fault) };
+        Some (error_line told.program.name.now told.program.usage.now told.fault) };
 
     fn fmt<W: fmt::Write>(&self, f: &mut fmt::Formatter<W>) -> fmt::Result {
         let why = FaultText {
@@ -38,11 +38,11 @@ impl fmt::Display for FaultLine {
     }
 }
 
-/// What a fault's line says behind the program's name.
+/// The text about a fault after the program's name.
 #[derive(Clone, Copy)]
 struct FaultText {
     usage: &'static str,
-    fault: Fault,
+    fault: ProgramFault,
 }
 
 impl fmt::Display for FaultText {
@@ -50,19 +50,19 @@ impl fmt::Display for FaultText {
 
     fn fmt<W: fmt::Write>(&self, f: &mut fmt::Formatter<W>) -> fmt::Result {
         match &self.fault {
-            Fault::Words => f.write_str(self.usage),
-            Fault::NoMemory => f.write_str("no memory"),
-            Fault::Output => f.write_str("output"),
-            Fault::Read(fault) => fault.fmt(f),
-            Fault::Script(fault) => fault.fmt(f),
-            Fault::Bench(fault) => fault.fmt(f),
-            Fault::Run(fault) => fault.fmt(f),
+            ProgramFault::Words => f.write_str(self.usage),
+            ProgramFault::NoMemory => f.write_str("no memory"),
+            ProgramFault::Output => f.write_str("output"),
+            ProgramFault::Read(fault) => fault.fmt(f),
+            ProgramFault::Script(fault) => fault.fmt(f),
+            ProgramFault::Bench(fault) => fault.fmt(f),
+            ProgramFault::Run(fault) => fault.fmt(f),
         }
     }
 }
 
 /// How a program ends: with status 0, or with a line on standard error and the fault's status.
-pub fn ended(rt: &impl Eprint, program: Program, outcome: Result<(), Fault>) -> ExitCode
+pub fn exit_with(rt: &impl Eprint, program: Program, outcome: Result<(), ProgramFault>) -> ExitCode
     ensures { exit_status result ≡ status_after outcome }
 {
     match outcome {

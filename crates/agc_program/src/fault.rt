@@ -2,8 +2,9 @@
 ghost use Rattle.std.specs.Prelude.{◌≡◌, ◌≢◌};
 ghost use Rattle.clap.specs.Values.{kind_of};
 ghost use Rattle.clap.specs.declared.error.kind.ErrorKind.TheVariants.{OutOfMemory};
-ghost use Rattle.agc_program.specs.declared.fault.Fault.TheVariants.{Words, NoMemory};
-ghost use Rattle.agc_program.specs.declared.fault.Fault.TheVariants.{Read, Script, Bench, Run};
+ghost use Rattle.agc_program.specs.declared.fault.ProgramFault.TheVariants.{Words, NoMemory};
+ghost use Rattle.agc_program.specs.declared.fault.ProgramFault.TheVariants.{Read, Script, Bench};
+ghost use Rattle.agc_program.specs.declared.fault.ProgramFault.TheVariants.{Run};
 ghost use Rattle.agc_program.specs.Statuses.{status_of};
 
 use agc_document::BenchFault;
@@ -12,10 +13,10 @@ use agc_text::{ReadFault, ScriptFault};
 use clap::error::ErrorKind;
 use std::alloc::AllocError;
 
-/// Why a program didn't come to its end. Source: profile.
+/// A reason why a program ended early.
 #[derive(Clone, Copy)]
-pub enum Fault {
-    /// The words of the command line are none that it takes.
+pub enum ProgramFault {
+    /// The program doesn't take these words of the command line.
     Words,
     NoMemory,
     /// A flush of standard output failed.
@@ -26,30 +27,30 @@ pub enum Fault {
     Run(RunFault),
 }
 
-impl Fault {
+impl ProgramFault {
     /// The exit status: 1 if the input is refused, 2 if the words are wrong, 3 if memory ran out or
     /// a thread couldn't be started, 4 if a read or write failed, 5 if shares were lost.
     pub fn status(self) -> u8
         ensures { result ≡ status_of self }
     {
         match self {
-            Fault::Words => 2,
-            Fault::NoMemory => 3,
-            Fault::Output => 4,
-            Fault::Read(fault) => match fault {
+            ProgramFault::Words => 2,
+            ProgramFault::NoMemory => 3,
+            ProgramFault::Output => 4,
+            ProgramFault::Read(fault) => match fault {
                 ReadFault::NoMemory => 3,
                 ReadFault::Input => 4,
                 ReadFault::TooLong | ReadFault::NotText => 1,
             },
-            Fault::Script(fault) => match fault {
+            ProgramFault::Script(fault) => match fault {
                 ScriptFault::NoMemory => 3,
                 ScriptFault::Line(_) => 1,
             },
-            Fault::Bench(fault) => match fault {
+            ProgramFault::Bench(fault) => match fault {
                 BenchFault::NoMemory => 3,
                 _ => 1,
             },
-            Fault::Run(fault) => match fault {
+            ProgramFault::Run(fault) => match fault {
                 RunFault::NoMemory | RunFault::NoThread => 3,
                 RunFault::Output => 4,
                 RunFault::Lost => 5,
@@ -58,7 +59,7 @@ impl Fault {
     }
 }
 
-impl From<AllocError> for Fault {
+impl From<AllocError> for ProgramFault {
     ghost from_gives = { λ _ e. e ≡ NoMemory };
 
     fn from(_error: AllocError) -> Self {
@@ -66,7 +67,7 @@ impl From<AllocError> for Fault {
     }
 }
 
-impl From<ReadFault> for Fault {
+impl From<ReadFault> for ProgramFault {
     ghost from_gives = { λ fault e. e ≡ Read fault };
 
     fn from(fault: ReadFault) -> Self {
@@ -74,7 +75,7 @@ impl From<ReadFault> for Fault {
     }
 }
 
-impl From<ScriptFault> for Fault {
+impl From<ScriptFault> for ProgramFault {
     ghost from_gives = { λ fault e. e ≡ Script fault };
 
     fn from(fault: ScriptFault) -> Self {
@@ -82,7 +83,7 @@ impl From<ScriptFault> for Fault {
     }
 }
 
-impl From<BenchFault> for Fault {
+impl From<BenchFault> for ProgramFault {
     ghost from_gives = { λ fault e. e ≡ Bench fault };
 
     fn from(fault: BenchFault) -> Self {
@@ -90,7 +91,7 @@ impl From<BenchFault> for Fault {
     }
 }
 
-impl From<RunFault> for Fault {
+impl From<RunFault> for ProgramFault {
     ghost from_gives = { λ fault e. e ≡ Run fault };
 
     fn from(fault: RunFault) -> Self {
@@ -98,16 +99,16 @@ impl From<RunFault> for Fault {
     }
 }
 
-/// What `clap` says of words that it doesn't take.
-impl From<clap::Error> for Fault {
+/// The message of `clap` about words that it doesn't take.
+impl From<clap::Error> for ProgramFault {
     ghost from_gives = { λ error e. (kind_of error ≡ OutOfMemory → e ≡ NoMemory)
         × (kind_of error ≢ OutOfMemory → e ≡ Words) };
 
     fn from(error: clap::Error) -> Self {
         if error.kind() == ErrorKind::OutOfMemory {
-            Fault::NoMemory
+            ProgramFault::NoMemory
         } else {
-            Fault::Words
+            ProgramFault::Words
         }
     }
 }

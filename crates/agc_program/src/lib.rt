@@ -1,5 +1,5 @@
-//! What the programs share: why one ends early, the line that it prints about this, the words of
-//! the command line, and standard output. Source: profile.
+//! The parts that both programs share: the faults that end one early, the line that it prints about
+//! one, the words of the command line, and standard output.
 #![tactic(auto)]
 
 mod command;
@@ -8,6 +8,6 @@ mod fault;
 mod output;
 
 pub use command::{given_words, only_word};
-pub use ending::{FaultLine, Program, ended};
-pub use fault::Fault;
-pub use output::{buffered, flushed};
+pub use ending::{FaultLine, Program, exit_with};
+pub use fault::ProgramFault;
+pub use output::{buffered_output, flush_output};

@@ -4,27 +4,27 @@ use Rattle.std.specs.List.{fold}
 use Rattle.agc_machine.specs.Machines.{Machined, after}
 use Rattle.agc_plan.specs.declared.request.Request.{Request}
 use Rattle.agc_scene.specs.Events.{Watching, watched, watching_from}
-use Rattle.agc_run.specs.Runs.{Asking, all_to_ask, requests_in, script_asks, to_ask}
+use Rattle.agc_run.specs.Runs.{Pending, all_to_ask, requests_in, script_asks, to_ask}
 use Rattle.agc_run.specs.Subjects.{IsOf, requests_of}
 use Rattle.agc_run.specs.declared.subject.Subject.{Subject}
 use Rattle.agc_run.specs.declared.subject.Subject.TheVariants.{Bench, Scenario}
 use Rattle.agc_session.specs.declared.source.Source.TheVariants.{Script}
 use Rattle.agc_run.proofs.Resting.{bench_asked, source_asked}
 
-pub followed : (w : Watching) (a : Asking) (m n : Machined) (all : Machined → List Request) → w ≡ watching_from m → m ≡ n → ((k : Machined) → to_ask k a ≡ all k) → fold watched w (to_ask w.machine a) ≡ fold watched (watching_from n) (all n)
-followed w a m n all is same asks =
-    ap (λ (x : Watching). fold watched x (to_ask x.machine a)) (is ∙ ap watching_from same) ∙ ap (fold watched (watching_from n)) (asks n)
+pub followed : (w : Watching) (a : Pending) (m n : Machined) (all : Machined → List Request) → w ≡ watching_from m → m ≡ n → ((k : Machined) → to_ask k a ≡ all k) → fold watched w (to_ask w.machine a) ≡ fold watched (watching_from n) (all n)
+followed w a m n all is same pending =
+    ap (λ (x : Watching). fold watched x (to_ask x.machine a)) (is ∙ ap watching_from same) ∙ ap (fold watched (watching_from n)) (pending n)
 
-pub asked_all : (x : Machined) (a : Asking) (n : Machined) (all : Machined → List Request) → x ≡ n → ((k : Machined) → to_ask k a ≡ all k) → fold after x (to_ask x a) ≡ fold after n (all n)
-asked_all x a n all same asks = ap (λ (y : Machined). fold after y (to_ask y a)) same ∙ ap (fold after n) (asks n)
+pub asked_all : (x : Machined) (a : Pending) (n : Machined) (all : Machined → List Request) → x ≡ n → ((k : Machined) → to_ask k a ≡ all k) → fold after x (to_ask x a) ≡ fold after n (all n)
+asked_all x a n all same pending = ap (λ (y : Machined). fold after y (to_ask y a)) same ∙ ap (fold after n) (pending n)
 
-pub asked_on : (w : Watching) (a : Asking) (n : Machined) (all : Machined → List Request) → w ≡ watching_from n → ((k : Machined) → to_ask k a ≡ all k) → fold watched w (to_ask w.machine a) ≡ fold watched (watching_from n) (all n)
-asked_on w a n all is asks = followed w a n n all is refl asks
+pub asked_on : (w : Watching) (a : Pending) (n : Machined) (all : Machined → List Request) → w ≡ watching_from n → ((k : Machined) → to_ask k a ≡ all k) → fold watched w (to_ask w.machine a) ≡ fold watched (watching_from n) (all n)
+asked_on w a n all is pending = followed w a n n all is refl pending
 
 -- the requests of all that is asked in a subject, and in a script
-pub its_requests : (subject : Subject) (asks : Asking) → IsOf subject asks → (m : Machined) → to_ask m asks ≡ requests_of subject m
-its_requests (Bench bench) asks all m = ap requests_in (all m) ∙ bench_asked bench.now
-its_requests (Scenario scenario) asks all m = ap requests_in (all m)
+pub its_requests : (subject : Subject) (pending : Pending) → IsOf subject pending → (m : Machined) → to_ask m pending ≡ requests_of subject m
+its_requests (Bench bench) pending all m = ap requests_in (all m) ∙ bench_asked bench.now
+its_requests (Scenario scenario) pending all m = ap requests_in (all m)
 
-pub script_requests : (script : List Request) (asks : Asking) → ((m : Machined) → all_to_ask m asks ≡ script_asks script) → (m : Machined) → to_ask m asks ≡ script
-script_requests script asks all m = ap requests_in (all m) ∙ source_asked Script script
+pub script_requests : (script : List Request) (pending : Pending) → ((m : Machined) → all_to_ask m pending ≡ script_asks script) → (m : Machined) → to_ask m pending ≡ script
+script_requests script pending all m = ap requests_in (all m) ∙ source_asked Script script

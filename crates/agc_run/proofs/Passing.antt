@@ -26,9 +26,9 @@ use Rattle.agc_clock.proofs.Hearing.{nothing_moved}
 use Rattle.agc_clock.proofs.Scenarios.{no_tick_is_left}
 use Rattle.agc_scenario.specs.Scenarios.{Timed, TimedEvent, comes_by, counted_by, event_of, first_of, last_time_of, schedule_of, seed_of}
 use Rattle.agc_session.specs.declared.source.Source.{Source as BenchSource}
-use Rattle.agc_run.specs.declared.asks.Asked.{Asked}
+use Rattle.agc_run.specs.declared.pending_requests.Call.{Call}
 use Rattle.agc_run.specs.Going.{Going, alarm_with, alarms_after, centisecond_lived, going_at, lived_at, scenario_run, time_lived}
-use Rattle.agc_run.specs.Runs.{Asking, Pulls, Requested, alarms_with, all_to_ask, asks_after, by_source, clock_after, clock_asks, in_time, left_now, now_lived, requests_in, rest, time_asks}
+use Rattle.agc_run.specs.Runs.{Pending, Pulls, Requested, alarms_with, all_to_ask, asks_after, by_source, clock_after, clock_asks, in_time, left_now, now_lived, requests_in, rest, time_asks}
 
 -- a request of a run, where this was counted before it
 abbrev asked_at : ℕ → TimeAsked → Counts → Going → Going
@@ -38,7 +38,7 @@ abbrev counted_at : Counts → Going → Going
 counted_at counts g = record { at = record g.at { counts = counts }; alarms = g.alarms }
 
 record Leads (costs : List Cost) (time : ℕ) (g end : Going) (n : Next) : Type 0 where
-  asks : (q : TimeAsked) → n.asked ≡ Some q → end ≡ fold (lived_at costs time) (asked_at time q n.counts g) n.behind
+  pending : (q : TimeAsked) → n.asked ≡ Some q → end ≡ fold (lived_at costs time) (asked_at time q n.counts g) n.behind
   ends : n.asked ≡ None → end ≡ counted_at n.counts g
 
 -- an instant, by what came of it
@@ -47,7 +47,7 @@ did_at time did g = record { at = goes_on by_machine did.asked did.counts g.at; 
 
 leads : (costs : List Cost) (time : ℕ) (g : Going) (instants : List Instant) → Leads costs time g (fold (lived_at costs time) g instants) (next_of costs (by_machine.jobs g.at.state) instants g.at.counts)
 leads costs time g [] = record {
-  asks = λ q some. absurd (cc);
+  pending = λ q some. absurd (cc);
   ends = λ none. refl;
 }
 leads costs time g (instant ∷ behind) =
@@ -58,11 +58,11 @@ leads costs time g (instant ∷ behind) =
 
       each : (o : Option TimeAsked) (counts : Counts) → Leads costs time (counted_at counts g) (fold (lived_at costs time) (counted_at counts g) behind) (next_of costs (by_machine.jobs g.at.state) behind counts) → goal_of (record { asked = o; counts = counts })
       each (Some a) counts rest = record {
-        asks = λ q some. ap (λ (x : TimeAsked). fold (lived_at costs time) (asked_at time x counts g) behind) (same_Some a q some);
+        pending = λ q some. ap (λ (x : TimeAsked). fold (lived_at costs time) (asked_at time x counts g) behind) (same_Some a q some);
         ends = λ none. absurd (cc);
       }
       each None counts rest = record {
-        asks = λ q some. rest.asks q some;
+        pending = λ q some. rest.pending q some;
         ends = λ none. rest.ends none;
       }
 
@@ -155,7 +155,7 @@ first_left : (time number : ℕ) (events : List Event) → events_left time numb
 first_left time number [] = refl
 first_left time number (event ∷ events) = append-nil (events_at time number (event ∷ events))
 
-pub listed_asks : (m : Machined) (b : Requested) (a : Alarms) (k : Clocked) (all : List Asked) → rest b ≡ all → all_to_ask m (record { listed = b; timing = None; alarms = a; clock = k }) ≡ all
+pub listed_asks : (m : Machined) (b : Requested) (a : Alarms) (k : Clocked) (all : List Call) → rest b ≡ all → all_to_ask m (record { listed = b; timing = None; alarms = a; clock = k }) ≡ all
 unfolding all_to_ask
 listed_asks m b a k all is = append-nil (rest b) ∙ is
 
@@ -170,7 +170,7 @@ all_of_it n = omega arith
 pub time_left : (m : Machined) (b : Requested) (t : Timed) (a : Alarms) (k : Clocked) → rest b ≡ [] → a ≡ none_came → k ≡ at_start (seed_of t) → all_to_ask m (record { listed = b; timing = Some t; alarms = a; clock = k }) ≡ clock_asks t m
 unfolding all_to_ask scenario_run clock_asks
 time_left m b t a k none unheard start =
-    ap (λ (xs : List Asked). xs ++ time_asks (Some t) a k (fold after m (requests_in xs))) none
+    ap (λ (xs : List Call). xs ++ time_asks (Some t) a k (fold after m (requests_in xs))) none
     ∙ ap (λ (x : Alarms). time_asks (Some t) x k m) unheard
     ∙ ap (λ (c : Clocked). time_asks (Some t) none_came c m) start
     ∙ ap (λ (g : Going). map in_time (time_lived t g 1 (t.seconds * 100 - 0)).at.asked) (begun_now t m)
@@ -179,13 +179,13 @@ time_left m b t a k none unheard start =
 -- a request that is listed
 pub listed_pulled : (m : Machined) (b c : Requested) (t : Option Timed) (a : Alarms) (k : Clocked) (s : BenchSource) (q : Request) → rest b ≡ by_source s q ∷ rest c → Pulls m (record { listed = b; timing = t; alarms = a; clock = k }) (Some (by_source s q)) (record { listed = c; timing = t; alarms = a; clock = k })
 unfolding all_to_ask
-listed_pulled m b c t a k s q is = ap (λ (xs : List Asked). xs ++ time_asks t a k (fold after m (requests_in xs))) is
+listed_pulled m b c t a k s q is = ap (λ (xs : List Call). xs ++ time_asks t a k (fold after m (requests_in xs))) is
 
 -- nothing that is listed is left
-pub listed_over : (m : Machined) (b c : Requested) (t : Option Timed) (a : Alarms) (k : Clocked) (o : Option Asked) (new : Asking) → rest b ≡ rest c → Pulls m (record { listed = c; timing = t; alarms = a; clock = k }) o new → Pulls m (record { listed = b; timing = t; alarms = a; clock = k }) o new
+pub listed_over : (m : Machined) (b c : Requested) (t : Option Timed) (a : Alarms) (k : Clocked) (o : Option Call) (new : Pending) → rest b ≡ rest c → Pulls m (record { listed = c; timing = t; alarms = a; clock = k }) o new → Pulls m (record { listed = b; timing = t; alarms = a; clock = k }) o new
 unfolding all_to_ask
-listed_over m b c t a k (Some asked) new is pulls = ap (λ (xs : List Asked). xs ++ time_asks t a k (fold after m (requests_in xs))) is ∙ pulls
-listed_over m b c t a k None new is pulls = ap (λ (xs : List Asked). xs ++ time_asks t a k (fold after m (requests_in xs))) is ∙ pulls
+listed_over m b c t a k (Some asked) new is pulls = ap (λ (xs : List Call). xs ++ time_asks t a k (fold after m (requests_in xs))) is ∙ pulls
+listed_over m b c t a k None new is pulls = ap (λ (xs : List Call). xs ++ time_asks t a k (fold after m (requests_in xs))) is ∙ pulls
 
 -- nothing is left, and no time passes
 pub untimed : (m : Machined) (b : Requested) (t : Option Timed) (a : Alarms) (k : Clocked) → t ≡ None → rest b ≡ [] → all_to_ask m (record { listed = b; timing = t; alarms = a; clock = k }) ≡ []
@@ -207,7 +207,7 @@ abbrev alarms_then : Machined → TimeAsked → ℕ → Alarms → Alarms
 alarms_then m q time a = came (alarm_with (answer_of m q.request)) time a
 
 -- what is asked when this was asked, and these instants are left of the centisecond
-abbrev asked_with : Timed → Alarms → Machined → Counts → TimeAsked → Counts → List Instant → ℕ → ℕ → List Asked
+abbrev asked_with : Timed → Alarms → Machined → Counts → TimeAsked → Counts → List Instant → ℕ → ℕ → List Call
 asked_with t a m before q counts left time more = map in_time (time_lived t (fold (lived_at (schedule_of t a).costs time) (asked_at time q counts (start_with m before a)) left) (time + 1) more).at.asked
 
 goes_then : (t : Timed) (a : Alarms) (m : Machined) (before : Counts) (n : Clocked) (q : TimeAsked) (left : List Instant) → left_now (schedule_of t a) n ≡ left → asked_with t a m before q n.counts left n.time (t.seconds * 100 - n.time) ≡ in_time q ∷ time_asks (Some t) (alarms_then m q n.time a) (then_with m q n) (by_machine.next m q)
@@ -226,7 +226,7 @@ goes_then t a m before n q left is =
 
 -- the request comes in this centisecond
 asked_now : (t : Timed) (a : Alarms) (m : Machined) (k n : Clocked) (q : TimeAsked) → AsksNext (schedule_of t a) (jobs_with m) k (Some q) n → (next_of (schedule_of t a).costs (jobs_with m) (left_now (schedule_of t a) k) k.counts).asked ≡ Some q → time_asks (Some t) a k m ≡ in_time q ∷ time_asks (Some t) (alarms_then m q n.time a) (then_with m q n) (by_machine.next m q)
-asked_now t a m k n q asks some =
+asked_now t a m k n q pending some =
     let table = schedule_of t a in
     let jobs : Jobs = jobs_with m in
     let here : List Instant = left_now table k in
@@ -234,11 +234,11 @@ asked_now t a m k n q asks some =
     let next : Next = next_of table.costs jobs here k.counts in
     let all : next_of table.costs jobs (to_come table k) k.counts ≡ record { asked = Some q; behind = next.behind ++ later; counts = next.counts } =
     ap (λ (l : List Instant). next_of table.costs jobs l k.counts) (two_parts table k) ∙ next_first table.costs jobs here later k.counts q some in
-    let time : n.time ≡ k.time = asks.time_is ∙ ap (λ (b : Bool). cond b (k.time + 1) k.time) (no_tick_is_left table.costs jobs k (drop k.event table.events) k.counts q some) in
+    let time : n.time ≡ k.time = pending.time_is ∙ ap (λ (b : Bool). cond b (k.time + 1) k.time) (no_tick_is_left table.costs jobs k (drop k.event table.events) k.counts q some) in
     let left : left_now table n ≡ next.behind = append_cancel_right (left_now table n) next.behind later
-    (ap (λ (x : ℕ). left_now table n ++ later_on table x) (sym time) ∙ sym (two_parts table n) ∙ asks.to_come_is ∙ ap (λ (x : Next). x.behind) all) in
-    let counts : next.counts ≡ n.counts = sym (asks.counts_is ∙ ap (λ (x : Next). x.counts) all) in
-    ap (λ (g : Going). map in_time (time_lived t g (k.time + 1) (t.seconds * 100 - k.time)).at.asked) ((leads table.costs k.time (start_with m k.counts a) here).asks q some)
+    (ap (λ (x : ℕ). left_now table n ++ later_on table x) (sym time) ∙ sym (two_parts table n) ∙ pending.to_come_is ∙ ap (λ (x : Next). x.behind) all) in
+    let counts : next.counts ≡ n.counts = sym (pending.counts_is ∙ ap (λ (x : Next). x.counts) all) in
+    ap (λ (g : Going). map in_time (time_lived t g (k.time + 1) (t.seconds * 100 - k.time)).at.asked) ((leads table.costs k.time (start_with m k.counts a) here).pending q some)
     ∙ ap (λ (x : ℕ). asked_with t a m k.counts q next.counts next.behind x (t.seconds * 100 - x)) (sym time)
     ∙ ap (λ (c : Counts). asked_with t a m k.counts q c next.behind n.time (t.seconds * 100 - n.time)) counts
     ∙ goes_then t a m k.counts n q next.behind left
@@ -275,17 +275,17 @@ asks_over t a m k none =
     ap (λ (g : Going). map in_time (time_lived t g (k.time + 1) (t.seconds * 100 - k.time)).at.asked) ((leads table.costs k.time (start_with m k.counts a) (left_now table k)).ends none)
 
 asked_later : (t : Timed) (a : Alarms) (m : Machined) (k n : Clocked) (q : TimeAsked) (more : ℕ) → AsksNext (schedule_of t a) (jobs_with m) k (Some q) n → IsOver t a m k → t.seconds * 100 - k.time ≡ suc more → time_asks (Some t) a k m ≡ in_time q ∷ time_asks (Some t) (alarms_then m q n.time a) (then_with m q n) (by_machine.next m q)
-asked_later t a m k n q more asks none is =
+asked_later t a m k n q more pending none is =
     let table = schedule_of t a in
     let counts : Counts = counts_over t a m k in
     let tick : TimeAsked = by_clock Tick in
     let all : next_of table.costs (jobs_with m) (to_come table k) k.counts ≡ ticks_next table k.time more counts = next_over t a m k none ∙ tick_next table (jobs_with m) k.time more (table.lasts - k.time) counts is in
-    let its : q ≡ tick = same_Some q tick (asks.asked_is ∙ ap (λ (x : Next). x.asked) all) in
-    let time : n.time ≡ k.time + 1 = asks.time_is ∙ ap (λ (x : TimeAsked). time_after k.time (Some x)) its in
+    let its : q ≡ tick = same_Some q tick (pending.asked_is ∙ ap (λ (x : Next). x.asked) all) in
+    let time : n.time ≡ k.time + 1 = pending.time_is ∙ ap (λ (x : TimeAsked). time_after k.time (Some x)) its in
     let left_then : t.seconds * 100 - n.time ≡ more = omega (arith, is, time) in
     let left : left_now table n ≡ rest_of table (k.time + 1) = append_cancel_right (left_now table n) (rest_of table (k.time + 1)) (centiseconds table (k.time + 1 + 1) more)
-    (ap (λ (x : ℕ). left_now table n ++ centiseconds table (x + 1) more) (sym time) ∙ ap (λ (x : ℕ). left_now table n ++ centiseconds table (n.time + 1) x) (sym left_then) ∙ sym (two_parts table n) ∙ asks.to_come_is ∙ ap (λ (x : Next). x.behind) all) in
-    let counted : counts ≡ n.counts = sym (asks.counts_is ∙ ap (λ (x : Next). x.counts) all) in
+    (ap (λ (x : ℕ). left_now table n ++ centiseconds table (x + 1) more) (sym time) ∙ ap (λ (x : ℕ). left_now table n ++ centiseconds table (n.time + 1) x) (sym left_then) ∙ sym (two_parts table n) ∙ pending.to_come_is ∙ ap (λ (x : Next). x.behind) all) in
+    let counted : counts ≡ n.counts = sym (pending.counts_is ∙ ap (λ (x : Next). x.counts) all) in
     asks_over t a m k none
     ∙ ap (λ (x : ℕ). map in_time (time_lived t (start_with m counts a) (k.time + 1) x).at.asked) is
     ∙ ap (λ (x : TimeAsked). asked_with t a m counts x counts (rest_of table (k.time + 1)) (k.time + 1) more) (sym its)
@@ -295,7 +295,7 @@ asked_later t a m k n q more asks none is =
     ∙ goes_then t a m counts n q (rest_of table (k.time + 1)) left
 
 pulled_time : (t : Timed) (a : Alarms) (m : Machined) (k n : Clocked) (q : TimeAsked) → AsksNext (schedule_of t a) (jobs_with m) k (Some q) n → time_asks (Some t) a k m ≡ in_time q ∷ time_asks (Some t) (alarms_then m q n.time a) (then_with m q n) (by_machine.next m q)
-pulled_time t a m k n q asks = go here.asked refl where
+pulled_time t a m k n q pending = go here.asked refl where
   table : Schedule
   table = schedule_of t a
 
@@ -303,17 +303,17 @@ pulled_time t a m k n q asks = go here.asked refl where
   here = next_of table.costs (jobs_with m) (left_now table k) k.counts
 
   later : IsOver t a m k → (left : ℕ) → t.seconds * 100 - k.time ≡ left → time_asks (Some t) a k m ≡ in_time q ∷ time_asks (Some t) (alarms_then m q n.time a) (then_with m q n) (by_machine.next m q)
-  later none zero is = absurd (let no : Some q ≡ None = asks.asked_is ∙ ap (λ (x : Next). x.asked) (next_over t a m k none) ∙ none_next table (jobs_with m) k.time (table.lasts - k.time) (counts_over t a m k) is in cc)
-  later none (suc more) is = asked_later t a m k n q more asks none is
+  later none zero is = absurd (let no : Some q ≡ None = pending.asked_is ∙ ap (λ (x : Next). x.asked) (next_over t a m k none) ∙ none_next table (jobs_with m) k.time (table.lasts - k.time) (counts_over t a m k) is in cc)
+  later none (suc more) is = asked_later t a m k n q more pending none is
 
   go : (o : Option TimeAsked) → here.asked ≡ o → time_asks (Some t) a k m ≡ in_time q ∷ time_asks (Some t) (alarms_then m q n.time a) (then_with m q n) (by_machine.next m q)
   go (Some p) some =
-      let its : q ≡ p = same_Some q p (asks.asked_is ∙ ap (λ (l : List Instant). (next_of table.costs (jobs_with m) l k.counts).asked) (two_parts table k) ∙ ap (λ (x : Next). x.asked) (next_first table.costs (jobs_with m) (left_now table k) (later_on table k.time) k.counts p some)) in
-      asked_now t a m k n q asks (some ∙ ap (λ (x : TimeAsked). Some x) (sym its))
+      let its : q ≡ p = same_Some q p (pending.asked_is ∙ ap (λ (l : List Instant). (next_of table.costs (jobs_with m) l k.counts).asked) (two_parts table k) ∙ ap (λ (x : Next). x.asked) (next_first table.costs (jobs_with m) (left_now table k) (later_on table k.time) k.counts p some)) in
+      asked_now t a m k n q pending (some ∙ ap (λ (x : TimeAsked). Some x) (sym its))
   go None none = later none (t.seconds * 100 - k.time) refl
 
 over_time : (t : Timed) (a : Alarms) (m : Machined) (k n : Clocked) → AsksNext (schedule_of t a) (jobs_with m) k None n → time_asks (Some t) a k m ≡ []
-over_time t a m k n asks = go here.asked refl where
+over_time t a m k n pending = go here.asked refl where
   table : Schedule
   table = schedule_of t a
 
@@ -322,41 +322,41 @@ over_time t a m k n asks = go here.asked refl where
 
   later : IsOver t a m k → (left : ℕ) → t.seconds * 100 - k.time ≡ left → time_asks (Some t) a k m ≡ []
   later none zero is = asks_over t a m k none ∙ ap (λ (x : ℕ). map in_time (time_lived t (start_with m (counts_over t a m k) a) (k.time + 1) x).at.asked) is
-  later none (suc more) is = absurd (let no : None ≡ Some (by_clock Tick) = asks.asked_is ∙ ap (λ (x : Next). x.asked) (next_over t a m k none ∙ tick_next table (jobs_with m) k.time more (table.lasts - k.time) (counts_over t a m k) is) in cc)
+  later none (suc more) is = absurd (let no : None ≡ Some (by_clock Tick) = pending.asked_is ∙ ap (λ (x : Next). x.asked) (next_over t a m k none ∙ tick_next table (jobs_with m) k.time more (table.lasts - k.time) (counts_over t a m k) is) in cc)
 
   go : (o : Option TimeAsked) → here.asked ≡ o → time_asks (Some t) a k m ≡ []
-  go (Some p) some = absurd (let no : None ≡ Some p = asks.asked_is ∙ ap (λ (l : List Instant). (next_of table.costs (jobs_with m) l k.counts).asked) (two_parts table k) ∙ ap (λ (x : Next). x.asked) (next_first table.costs (jobs_with m) (left_now table k) (later_on table k.time) k.counts p some) in cc)
+  go (Some p) some = absurd (let no : None ≡ Some p = pending.asked_is ∙ ap (λ (l : List Instant). (next_of table.costs (jobs_with m) l k.counts).asked) (two_parts table k) ∙ ap (λ (x : Next). x.asked) (next_first table.costs (jobs_with m) (left_now table k) (later_on table k.time) k.counts p some) in cc)
   go None none = later none (t.seconds * 100 - k.time) refl
 
 -- the time is over
 over_at : (m : Machined) (b : Requested) (t : Timed) (a : Alarms) (k n : Clocked) → rest b ≡ [] → AsksNext (schedule_of t a) (jobs_with m) k None n → all_to_ask m (record { listed = b; timing = Some t; alarms = a; clock = k }) ≡ []
 unfolding all_to_ask
-over_at m b t a k n is asks =
-    ap (λ (xs : List Asked). xs ++ time_asks (Some t) a k (fold after m (requests_in xs))) is ∙ over_time t a m k n asks
+over_at m b t a k n is pending =
+    ap (λ (xs : List Call). xs ++ time_asks (Some t) a k (fold after m (requests_in xs))) is ∙ over_time t a m k n pending
 
 -- a request of the clock
 pulled_at : (m : Machined) (b : Requested) (t : Timed) (a : Alarms) (k n : Clocked) (q : TimeAsked) → rest b ≡ [] → AsksNext (schedule_of t a) (jobs_with m) k (Some q) n → Pulls m (record { listed = b; timing = Some t; alarms = a; clock = k }) (Some (in_time q)) (record { listed = b; timing = Some t; alarms = a; clock = n })
 unfolding all_to_ask
-pulled_at m b t a k n q is asks =
+pulled_at m b t a k n q is pending =
     let told : Alarms = alarms_then m q n.time a in
     let then : Clocked = then_with m q n in
-    ap (λ (xs : List Asked). xs ++ time_asks (Some t) a k (fold after m (requests_in xs))) is
-    ∙ pulled_time t a m k n q asks
-    ∙ ap (λ (xs : List Asked). in_time q ∷ (xs ++ time_asks (Some t) told then (fold after (by_machine.next m q) (requests_in xs)))) (sym is)
+    ap (λ (xs : List Call). xs ++ time_asks (Some t) a k (fold after m (requests_in xs))) is
+    ∙ pulled_time t a m k n q pending
+    ∙ ap (λ (xs : List Call). in_time q ∷ (xs ++ time_asks (Some t) told then (fold after (by_machine.next m q) (requests_in xs)))) (sym is)
 
 pub time_over : (m : Machined) (b : Requested) (o : Option Timed) (t : Timed) (a : Alarms) (j : Jobs) (k n : Clocked) → o ≡ Some t → j ≡ (plain_of m).work.jobs → rest b ≡ [] → AsksNext (schedule_of t a) j k None n → all_to_ask m (record { listed = b; timing = o; alarms = a; clock = k }) ≡ []
-time_over m b o t a j k n some same is asks =
+time_over m b o t a j k n some same is pending =
     ap (λ (x : Option Timed). all_to_ask m (record { listed = b; timing = x; alarms = a; clock = k })) some
-    ∙ over_at m b t a k n is (subst (λ (x : Jobs). AsksNext (schedule_of t a) x k None n) same asks)
+    ∙ over_at m b t a k n is (subst (λ (x : Jobs). AsksNext (schedule_of t a) x k None n) same pending)
 
 pub time_pulled : (m : Machined) (b : Requested) (o : Option Timed) (t : Timed) (a : Alarms) (j : Jobs) (k n : Clocked) (q : TimeAsked) → o ≡ Some t → j ≡ (plain_of m).work.jobs → rest b ≡ [] → AsksNext (schedule_of t a) j k (Some q) n → Pulls m (record { listed = b; timing = o; alarms = a; clock = k }) (Some (in_time q)) (record { listed = b; timing = o; alarms = a; clock = n })
-time_pulled m b o t a j k n q some same is asks =
+time_pulled m b o t a j k n q some same is pending =
     subst (λ (x : Option Timed). Pulls m (record { listed = b; timing = x; alarms = a; clock = k }) (Some (in_time q)) (record { listed = b; timing = x; alarms = a; clock = n })) (sym some)
-    (pulled_at m b t a k n q is (subst (λ (x : Jobs). AsksNext (schedule_of t a) x k (Some q) n) same asks))
+    (pulled_at m b t a k n q is (subst (λ (x : Jobs). AsksNext (schedule_of t a) x k (Some q) n) same pending))
 
 -- one was asked of a machine, and the clock was told
-pub told_all : (m n : Machined) (answer : Result Reply Refusal) (j : Jobs) (asks then : Asking) (asked : Asked) → n ≡ after m asked.request → answer ≡ answer_of m asked.request → j ≡ (plain_of n).work.jobs → then ≡ record asks { alarms = alarms_with asked.source (alarm_with answer) asks.clock.time asks.alarms; clock = clock_after asked.source (begins_with answer) j asks.clock } → all_to_ask n then ≡ all_to_ask (after m asked.request) (asks_after m asks asked)
-told_all m n answer j asks then asked is same jobs told =
-    let rest = λ (x : Result Reply Refusal) (l : Jobs). all_to_ask (after m asked.request) (record asks { alarms = alarms_with asked.source (alarm_with x) asks.clock.time asks.alarms; clock = clock_after asked.source (begins_with x) l asks.clock }) in
+pub told_all : (m n : Machined) (answer : Result Reply Refusal) (j : Jobs) (pending then : Pending) (asked : Call) → n ≡ after m asked.request → answer ≡ answer_of m asked.request → j ≡ (plain_of n).work.jobs → then ≡ record pending { alarms = alarms_with asked.source (alarm_with answer) pending.clock.time pending.alarms; clock = clock_after asked.source (begins_with answer) j pending.clock } → all_to_ask n then ≡ all_to_ask (after m asked.request) (asks_after m pending asked)
+told_all m n answer j pending then asked is same jobs told =
+    let rest = λ (x : Result Reply Refusal) (l : Jobs). all_to_ask (after m asked.request) (record pending { alarms = alarms_with asked.source (alarm_with x) pending.clock.time pending.alarms; clock = clock_after asked.source (begins_with x) l pending.clock }) in
     ap (λ (x : Machined). all_to_ask x then) is ∙ ap (all_to_ask (after m asked.request)) told
     ∙ ap (λ (x : Result Reply Refusal). rest x j) same ∙ ap (rest (answer_of m asked.request)) (jobs ∙ ap (λ (x : Machined). (plain_of x).work.jobs) is)

@@ -7,16 +7,16 @@ use Rattle.agc_document.specs.Benches.{Benched}
 use Rattle.agc_plan.proofs.Lists.{next_is, none_left}
 use Rattle.agc_plan.specs.declared.request.Request.{Request}
 use Rattle.agc_session.proofs.Pieces.{pieces_ask}
-use Rattle.agc_session.specs.Pieces.{Piece, Walked, asked_in, bench_pieces, to_come}
+use Rattle.agc_session.specs.Pieces.{Piece, Walked, piece_requests, bench_pieces, to_come}
 use Rattle.agc_session.specs.Runs.{bench_requests}
 use Rattle.agc_session.specs.declared.source.Source.{Source as BenchSource}
-use Rattle.agc_run.specs.declared.asks.Asked.{Asked}
+use Rattle.agc_run.specs.declared.pending_requests.Call.{Call}
 use Rattle.agc_run.specs.Runs.{asks_in, bench_asks, by_source, requests_in, rest}
 
 -- what is asked of the piece, and behind it
-parts : (w : Walked) (k : ℕ) (here : List Asked) → drop k (asks_in w.here) ≡ here → rest (record { walk = w; at = k }) ≡ here ++ flat_map asks_in (to_come w)
+parts : (w : Walked) (k : ℕ) (here : List Call) → drop k (asks_in w.here) ≡ here → rest (record { walk = w; at = k }) ≡ here ++ flat_map asks_in (to_come w)
 unfolding rest
-parts w k here is = ap (λ (xs : List Asked). xs ++ flat_map asks_in (to_come w)) is
+parts w k here is = ap (λ (xs : List Call). xs ++ flat_map asks_in (to_come w)) is
 
 -- before the first, all is
 pub at_first : (w : Walked) → w.here.requests ≡ [] → rest (record { walk = w; at = 0 }) ≡ flat_map asks_in (to_come w)
@@ -36,28 +36,28 @@ all_over w k high is = parts w k [] (none_here w.here k high) ∙ ap (flat_map a
 
 first_here : (piece : Piece) (k : ℕ) (q : Request) → k < length piece.requests → q ≡ get_or piece.requests k q → drop k (asks_in piece) ≡ by_source piece.source q ∷ drop (k + 1) (asks_in piece)
 first_here piece k q low is =
-    let asks = by_source piece.source in
-    drop-map asks k piece.requests ∙ ap (map asks) (next_is piece.requests k q low is) ∙ ap (λ (xs : List Asked). asks q ∷ xs) (sym (drop-map asks (k + 1) piece.requests))
+    let pending = by_source piece.source in
+    drop-map pending k piece.requests ∙ ap (map pending) (next_is piece.requests k q low is) ∙ ap (λ (xs : List Call). pending q ∷ xs) (sym (drop-map pending (k + 1) piece.requests))
 
 -- one more of the piece
 pub one_taken : (w : Walked) (k : ℕ) (q : Request) → k < length w.here.requests → q ≡ get_or w.here.requests k q → rest (record { walk = w; at = k }) ≡ by_source w.here.source q ∷ rest (record { walk = w; at = k + 1 })
 one_taken w k q low is =
     let asked = by_source w.here.source q in
-    parts w k (asked ∷ drop (k + 1) (asks_in w.here)) (first_here w.here k q low is) ∙ ap (λ (xs : List Asked). asked ∷ xs) (sym (parts w (k + 1) (drop (k + 1) (asks_in w.here)) refl))
+    parts w k (asked ∷ drop (k + 1) (asks_in w.here)) (first_here w.here k q low is) ∙ ap (λ (xs : List Call). asked ∷ xs) (sym (parts w (k + 1) (drop (k + 1) (asks_in w.here)) refl))
 
 -- the requests of what a source asks for
 pub source_asked : (source : BenchSource) (requests : List Request) → requests_in (map (by_source source) requests) ≡ requests
 source_asked source [] = refl
 source_asked source (q ∷ qs) = ap (λ (all : List Request). q ∷ all) (source_asked source qs)
 
-pieces_asked : (pieces : List Piece) → requests_in (flat_map asks_in pieces) ≡ flat_map asked_in pieces
+pieces_asked : (pieces : List Piece) → requests_in (flat_map asks_in pieces) ≡ flat_map piece_requests pieces
 pieces_asked [] = refl
 pieces_asked (piece ∷ pieces) =
     ap requests_in (flat_map-cons asks_in piece pieces)
-    ∙ map-append (λ (asked : Asked). asked.request) (asks_in piece) (flat_map asks_in pieces)
+    ∙ map-append (λ (asked : Call). asked.request) (asks_in piece) (flat_map asks_in pieces)
     ∙ ap (λ (qs : List Request). qs ++ requests_in (flat_map asks_in pieces)) (source_asked piece.source piece.requests)
     ∙ ap (λ (qs : List Request). piece.requests ++ qs) (pieces_asked pieces)
-    ∙ sym (flat_map-cons asked_in piece pieces)
+    ∙ sym (flat_map-cons piece_requests piece pieces)
 
 -- and of what is asked in a bench
 pub bench_asked : (bench : Benched) → requests_in (bench_asks bench) ≡ bench_requests bench

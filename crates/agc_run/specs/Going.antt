@@ -46,7 +46,7 @@ centisecond_lived timed run time =
     let table = schedule_of timed run.alarms in
     fold (lived_at table.costs time) run (centisecond table time)
 
--- so many centiseconds, from this one on
+-- a run after `more` centiseconds, from `time` on
 abbrev pub time_lived : Timed → Going → ℕ → ℕ → Going
 time_lived timed run time more = fold (centisecond_lived timed) run (range_with_len time more)
 

@@ -6,6 +6,7 @@ use Rattle.agc_plan.specs.declared.reply.Alarm.{Alarm}
 use Rattle.agc_plan.specs.declared.request.Request.{Request}
 use Rattle.agc_plan.specs.Jobs.{Jobs}
 use Rattle.agc_machine.specs.Machines.{Machined, after, answer_of, plain_of}
+use Rattle.agc_machine.specs.Moments.{Acting}
 use Rattle.agc_clock.specs.declared.alarms.Alarms.{Alarms}
 use Rattle.agc_clock.specs.declared.asked.Asked.{Asked as TimeAsked}
 use Rattle.agc_clock.specs.Alarms.{came}
@@ -22,9 +23,9 @@ use Rattle.agc_session.specs.Pieces.{Piece, Walked, bench_pieces, to_come as pie
 use Rattle.agc_session.specs.declared.source.Source.{Source as BenchSource}
 use Rattle.agc_session.specs.declared.source.Source.TheVariants.{Script}
 use Rattle.agc_run.specs.Going.{Going, alarm_with, lived_at, scenario_run, time_lived}
-use Rattle.agc_run.specs.declared.asks.Asked.{Asked}
-use Rattle.agc_run.specs.declared.asks.Source.{Source}
-use Rattle.agc_run.specs.declared.asks.Source.TheVariants.{Bench, Time}
+use Rattle.agc_run.specs.declared.pending_requests.Call.{Call}
+use Rattle.agc_run.specs.declared.pending_requests.Source.{Source}
+use Rattle.agc_run.specs.declared.pending_requests.Source.TheVariants.{Bench, Time}
 
 -- the requests of a bench or a script: a walk, and how many were taken of the piece on which it
 -- stands
@@ -32,29 +33,29 @@ pub record Requested : Type 0 where
   pub walk : Walked
   pub at : ℕ
 
--- what a source of a bench asks for, and what a clock or an event does
-abbrev pub by_source : BenchSource → Request → Asked
+-- a request with its source: a caller of the bench, or the clock or an event
+abbrev pub by_source : BenchSource → Request → Call
 by_source source request = record { source = Bench source; request = request }
 
-abbrev pub in_time : TimeAsked → Asked
+abbrev pub in_time : TimeAsked → Call
 in_time asked = record { source = Time asked.source; request = asked.request }
 
--- what is asked in a piece of a bench, in a script, and in a whole bench
-abbrev pub asks_in : Piece → List Asked
+-- the requests of a piece of a bench, of a script, and of a whole bench, with their sources
+abbrev pub asks_in : Piece → List Call
 asks_in piece = map (by_source piece.source) piece.requests
 
-abbrev pub script_asks : List Request → List Asked
+abbrev pub script_asks : List Request → List Call
 script_asks script = map (by_source Script) script
 
-unfoldable pub bench_asks : Benched → List Asked
+unfoldable pub bench_asks : Benched → List Call
 bench_asks bench = flat_map asks_in (bench_pieces bench)
 
 -- the requests alone
-abbrev pub requests_in : List Asked → List Request
+abbrev pub requests_in : List Call → List Request
 requests_in all = map (λ asked. asked.request) all
 
--- what is still to come
-unfoldable pub rest : Requested → List Asked
+-- the requests that are still to come
+unfoldable pub rest : Requested → List Call
 rest r = drop r.at (asks_in r.walk.here) ++ flat_map asks_in (pieces_to_come r.walk)
 
 -- the first of that is taken, or there was none
@@ -62,16 +63,16 @@ abbrev pub Takes : Requested → Option (BenchSource × Request) → Requested �
 Takes old (Some asked) new = rest old ≡ by_source asked.0 asked.1 ∷ rest new
 Takes old None new = (rest old ≡ []) × (rest new ≡ [])
 
--- what is still to be asked: the requests that are listed in a bench or a script, and those of a
--- clock, if time passes, in which these alarms came so far
-pub record Asking : Type 0 where
+-- the requests that are still to come: those of a script or a bench and, if time passes, those of a
+-- clock, given the alarms so far
+pub record Pending : Type 0 where
   pub listed : Requested
   pub timing : Option Timed
   pub alarms : Alarms
   pub clock : Clocked
 
--- what the clock of a scenario asks a machine for, in order, and the requests alone
-unfoldable pub clock_asks : Timed → Machined → List Asked
+-- the requests that a scenario's clock makes of a machine, in order; and without their sources
+unfoldable pub clock_asks : Timed → Machined → List Call
 clock_asks timed machine = map in_time (scenario_run timed machine).at.asked
 
 abbrev pub clock_requests : Timed → Machined → List Request
@@ -91,21 +92,21 @@ now_lived timed alarms clock machine =
     fold (lived_at table.costs clock.time) (record { at = at; alarms = alarms })
     (left_now table clock)
 
--- what a clock asks for while the rest of the time passes, where a machine is asked for it
-abbrev pub time_asks : Option Timed → Alarms → Clocked → Machined → List Asked
+-- the requests that a clock makes while the rest of the time passes
+abbrev pub time_asks : Option Timed → Alarms → Clocked → Machined → List Call
 time_asks None alarms clock machine = []
 time_asks (Some timed) alarms clock machine = map in_time
     (time_lived timed (now_lived timed alarms clock machine) (clock.time + 1)
     (timed.seconds * 100 - clock.time)).at.asked
 
 -- all that this machine is still to be asked for, in order, each request with who asks for it
-unfoldable pub all_to_ask : Machined → Asking → List Asked
+unfoldable pub all_to_ask : Machined → Pending → List Call
 all_to_ask m r =
     rest r.listed
     ++ time_asks r.timing r.alarms r.clock (fold after m (requests_in (rest r.listed)))
 
 -- the requests alone
-abbrev pub to_ask : Machined → Asking → List Request
+abbrev pub to_ask : Machined → Pending → List Request
 to_ask m r = requests_in (all_to_ask m r)
 
 -- a clock that was told whether an era began, and of the jobs, if it had asked
@@ -118,8 +119,8 @@ abbrev pub alarms_with : Source → Option Alarm → ℕ → Alarms → Alarms
 alarms_with (Bench source) alarm time alarms = alarms
 alarms_with (Time source) alarm time alarms = came alarm time alarms
 
--- what is still to be asked when this machine was asked for this
-abbrev pub asks_after : Machined → Asking → Asked → Asking
+-- the pending requests after this machine has served one
+abbrev pub asks_after : Machined → Pending → Call → Pending
 asks_after m r asked = record r {
   alarms = alarms_with asked.source (alarm_with (answer_of m asked.request)) r.clock.time
       r.alarms;
@@ -129,28 +130,30 @@ asks_after m r asked = record r {
 
 -- of what this machine is still to be asked for this comes first, and then the rest; or all was
 -- asked
-abbrev pub Pulls : Machined → Asking → Option Asked → Asking → Type 0
+abbrev pub Pulls : Machined → Pending → Option Call → Pending → Type 0
 Pulls m old (Some asked) new =
     all_to_ask m old ≡ asked ∷ all_to_ask (after m asked.request) (asks_after m new asked)
 Pulls m old None new = all_to_ask m old ≡ []
 
--- a run: a machine, and what it is still to be asked for
+-- a run: a machine, what its last request did before an era began with it, and what it is still to
+-- be asked for
 pub record Running : Type 0 where
   pub machine : Machined
-  pub asks : Asking
+  pub snapshot : Acting
+  pub pending : Pending
 
--- and one whose machine is watched
+-- a run whose machine is watched
 pub record WatchingRun : Type 0 where
   pub watching : Watching
-  pub asks : Asking
+  pub pending : Pending
 
--- what comes of the next request is its event, with who asked for it; or all was asked
+-- the event of the next request, with its source; None once all have been made
 abbrev pub Comes : WatchingRun → Option (Source × Event) → WatchingRun → Type 0
 Comes old (Some came) new =
-    (all_to_ask old.watching.machine old.asks
+    (all_to_ask old.watching.machine old.pending
     ≡ record { source = came.0; request = came.1.request }
-    ∷ all_to_ask new.watching.machine new.asks)
+    ∷ all_to_ask new.watching.machine new.pending)
     × (came.1 ≡ event_of old.watching came.1.request)
     × (new.watching ≡ watched old.watching came.1.request)
 Comes old None new =
-    (all_to_ask old.watching.machine old.asks ≡ []) × (new.watching ≡ old.watching)
+    (all_to_ask old.watching.machine old.pending ≡ []) × (new.watching ≡ old.watching)

@@ -1,15 +1,14 @@
-//! Runs that are pulled, request by request: of a script, of a bench, or of a scenario. Source:
-//! profile.
+//! Runs that are pulled, request by request: of a script, of a bench, or of a scenario.
 #![tactic(auto)]
 
-mod asks;
 pub mod laws;
+mod observed_run;
+mod pending_requests;
 mod requests;
 mod run;
 mod subject;
-mod watching;
 
-pub use asks::{Asked, Asks, Source};
+pub use observed_run::ObservedRun;
+pub use pending_requests::{Call, PendingRequests, Source};
 pub use run::Run;
 pub use subject::Subject;
-pub use watching::WatchedRun;

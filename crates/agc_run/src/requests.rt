@@ -23,7 +23,7 @@ impl<'a> Model for Requests<'a> {
 }
 
 impl<'a> Requests<'a> {
-    /// All of a bench's.
+    /// All requests of a bench.
     pub(crate) fn of_bench(bench: &'a Bench) -> Requests<'a>
         ensures { rest result ≡ bench_asks bench.now }
     {
@@ -33,7 +33,7 @@ impl<'a> Requests<'a> {
         }
     }
 
-    /// All of a script's.
+    /// All requests of a script.
     pub(crate) fn of_script(script: &'a [Request]) -> Requests<'a>
         ensures { rest result ≡ script_asks script.now }
     {
@@ -43,7 +43,7 @@ impl<'a> Requests<'a> {
         }
     }
 
-    /// The next, and who asks for it.
+    /// The next request, and its source.
     pub(crate) fn next(&mut self) -> Option<(Source, Request)>
         ensures { Takes self.old result self.new }
     {

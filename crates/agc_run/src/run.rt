@@ -1,19 +1,26 @@
-// A run that is pulled: a machine, and what is still to be asked of it.
-ghost use Rattle.std.specs.Prelude.{◌≡◌, option_map};
-ghost use Rattle.agc_machine.specs.Machines.{after, answer_of};
+// A run that is pulled: a machine, and its pending requests.
+ghost use Rattle.std.specs.Prelude.{◌≡◌, true, IfOk, option_map};
+ghost use Rattle.agc_machine.specs.Image.{AreLawful};
+ghost use Rattle.agc_machine.specs.Machines.{after, answer_of, fired_of};
+ghost use Rattle.agc_machine.specs.Moments.{IsMoment};
+ghost use Rattle.agc_plan.specs.Steps.{begins};
 ghost use Rattle.agc_run.specs.Runs.{Pulls, asks_after};
 
-use crate::asks::{Asked, Asks};
+use crate::pending_requests::{Call, PendingRequests};
 use agc_clock::Clock;
-use agc_machine::{Machine, Refusal};
-use agc_plan::{Fired, Reply};
+use agc_machine::{Machine, Moment, Refusal};
+use agc_plan::{Fired, Reply, Request};
+use agc_scene::begins_with;
+use agc_word::Erasable;
 use std::marker::Model;
 
-/// A run: a machine, and what it is still to be asked for. Source: profile.
+/// A run: a machine, what its last request did before an era began with it, and its pending
+/// requests.
 #[derive(Drop)]
 pub struct Run<'a> {
     machine: Machine,
-    asks: Asks<'a>,
+    snapshot: Moment,
+    pending: PendingRequests<'a>,
 }
 
 impl<'a> Model for Run<'a> {
@@ -21,57 +28,93 @@ impl<'a> Model for Run<'a> {
 
     ghost Value = { Running };
 
-    ghost view = { λ r. record { machine = r.machine; asks = r.asks } };
+    ghost view = { λ r. record {
+      machine = r.machine;
+      snapshot = r.snapshot;
+      pending = r.pending;
+    } };
 }
 
 impl<'a> Run<'a> {
-    /// This machine is to be asked for this. Source: profile.
-    pub fn new(machine: Machine, asks: Asks<'a>) -> Run<'a>
+    /// A run of these requests on this machine.
+    pub fn new(machine: Machine, pending: PendingRequests<'a>) -> Run<'a>
         ensures machine { result.machine ≡ machine }
-        ensures asks { result.asks ≡ asks.entry }
+        ensures pending { result.pending ≡ pending.entry }
     {
-        Run { machine, asks }
+        let snapshot = machine.moment(&Request::Restart);
+        Run {
+            machine,
+            snapshot,
+            pending,
+        }
     }
 
-    /// The machine as it is. Source: profile.
+    /// The machine as it is.
     pub fn machine(&self) -> &Machine
         ensures { result.now ≡ self.now.machine }
     {
         &self.machine
     }
 
-    /// The machine, after what was asked of it. Source: profile.
+    /// The machine, after the requests so far.
     pub fn into_machine(self) -> Machine
         ensures { result ≡ self.entry.machine }
     {
         self.machine
     }
 
-    /// The clock as it is, if time passes by itself. Source: profile.
+    /// The clock as it is, if time passes by itself.
     pub fn clock(&self) -> Option<&Clock>
         ensures { option_map (λ clock. clock.now) result
-            ≡ option_map (λ _. self.now.asks.clock) self.now.asks.timing }
+            ≡ option_map (λ _. self.now.pending.clock) self.now.pending.timing }
     {
-        self.asks.clock()
+        self.pending.clock()
     }
 
-    /// What comes next, and who asks for it; the machine is then to be asked for it. None, where
-    /// all was asked. Source: profile.
-    pub fn next(&mut self) -> Option<Asked>
-        ensures pulls { Pulls self.old.machine self.old.asks result self.new.asks }
+    /// The next request and its source; the machine must then be asked for it. None once all have
+    /// been made.
+    pub fn next(&mut self) -> Option<Call>
+        ensures pulls { Pulls self.old.machine self.old.pending result self.new.pending }
         ensures machine { self.new.machine ≡ self.old.machine }
     {
-        self.asks.next(self.machine.erasable())
+        self.pending.next(self.machine.erasable())
     }
 
-    /// Asks for what came next. Source: profile.
-    pub fn ask(&mut self, asked: &Asked, fired: &mut Fired) -> Result<Reply, Refusal>
+    /// Asks the machine for the request that came next.
+    pub fn ask(&mut self, asked: &Call) -> Result<Reply, Refusal>
         ensures answer { result ≡ answer_of self.old.machine asked.now.request }
+        ensures fired { self.new.snapshot.fired
+            ≡ fired_of self.old.machine asked.now.request }
         ensures machine { self.new.machine ≡ after self.old.machine asked.now.request }
-        ensures asks { self.new.asks ≡ asks_after self.old.machine self.old.asks asked.now }
+        ensures begun { IfOk result (λ reply. begins reply ≡ true
+            → IsMoment self.old.machine asked.now.request self.new.snapshot) }
+        ensures pending { self.new.pending
+            ≡ asks_after self.old.machine self.old.pending asked.now }
     {
-        let answer = self.machine.ask(&asked.request, fired);
-        self.asks.served(asked, self.machine.erasable(), &answer);
+        let answer = self
+            .machine
+            .ask_with_snapshot(&asked.request, &mut self.snapshot);
+        self.pending.served(asked, self.machine.erasable(), &answer);
         answer
+    }
+
+    /// The tasks that fired in the last request, in order.
+    pub fn tasks_fired(&self) -> &Fired
+        ensures { result.now ≡ self.now.snapshot.fired }
+    {
+        self.snapshot.fired()
+    }
+
+    /// The words as the last request left them, which got this answer, before an era began with it.
+    pub fn words_left(&self, answer: &Result<Reply, Refusal>) -> &Erasable
+        requires { IfOk answer.now (λ reply. begins reply ≡ true
+            → AreLawful self.now.snapshot.words) }
+        ensures { AreLawful result.now }
+    {
+        if begins_with(answer) {
+            self.snapshot.words()
+        } else {
+            self.machine.erasable()
+        }
     }
 }

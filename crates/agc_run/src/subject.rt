@@ -1,19 +1,18 @@
-// What is run.
+// The subject of a run.
 ghost use Rattle.std.specs.Prelude.{◌≡◌, option_map, IfOk, IfErr};
 ghost use Rattle.agc_run.specs.Subjects.{IsOf, bench_of, machine_of, timing_of};
 ghost use Rattle.agc_scene.specs.Events.{watching_from};
 
-use crate::asks::Asks;
+use crate::observed_run::ObservedRun;
+use crate::pending_requests::PendingRequests;
 use crate::run::Run;
-use crate::watching::WatchedRun;
 use agc_document::Bench;
 use agc_machine::Machine;
 use agc_scenario::{Scenario, Timing};
 use agc_session::{RunFault, machine_of};
 use std::alloc::Global;
 
-/// What is run: a bench, in the order of [`serial`](agc_session::serial), or a scenario. Source:
-/// profile.
+/// The subject of a run: a bench, in the order of [`serial`](agc_session::serial), or a scenario.
 #[derive(Clone, Copy)]
 pub enum Subject<'a> {
     Bench(&'a Bench),
@@ -21,7 +20,7 @@ pub enum Subject<'a> {
 }
 
 impl<'a> Subject<'a> {
-    /// The bench whose machine it runs on. Source: profile.
+    /// The bench whose machine it runs on.
     pub fn bench(self) -> &'a Bench
         ensures { result.now ≡ bench_of self.entry }
     {
@@ -31,7 +30,7 @@ impl<'a> Subject<'a> {
         }
     }
 
-    /// How time passes, if it is a scenario. Source: profile.
+    /// Its timing, if it is a scenario.
     pub fn timing(self) -> Option<&'a Timing>
         ensures { option_map (λ t. t.now) result ≡ timing_of self.entry }
     {
@@ -41,7 +40,7 @@ impl<'a> Subject<'a> {
         }
     }
 
-    /// Its machine, before the first request. Source: profile.
+    /// Its machine, before the first request.
     ///
     /// # Errors
     ///
@@ -53,41 +52,41 @@ impl<'a> Subject<'a> {
         machine_of(alloc, self.bench())
     }
 
-    /// All its requests. Source: profile.
-    pub fn asks(self) -> Asks<'a>
+    /// All its requests.
+    pub fn pending(self) -> PendingRequests<'a>
         ensures { IsOf self.entry result }
     {
         match self {
-            Subject::Bench(bench) => Asks::of_bench(bench),
-            Subject::Scenario(scenario) => Asks::of_scenario(scenario.timing()),
+            Subject::Bench(bench) => PendingRequests::of_bench(bench),
+            Subject::Scenario(scenario) => PendingRequests::of_scenario(scenario.timing()),
         }
     }
 
-    /// Its run, before the first request. Source: profile.
+    /// Its run, before the first request.
     ///
     /// # Errors
     ///
     /// `NoMemory`, and no other.
     pub fn run(self, alloc: Global) -> Result<Run<'a>, RunFault>
         ensures machine { IfOk result (λ r. r.machine ≡ machine_of self.entry) }
-        ensures asks { IfOk result (λ r. IsOf self.entry r.asks) }
+        ensures pending { IfOk result (λ r. IsOf self.entry r.pending) }
         ensures refused { IfErr result (λ e. e ≡ RunFault.NoMemory) }
     {
         let machine = self.machine(alloc)?;
-        Ok(Run::new(machine, self.asks()))
+        Ok(Run::new(machine, self.pending()))
     }
 
-    /// The same, with its machine watched. Source: profile.
+    /// Its run with a machine that is watched, before the first request.
     ///
     /// # Errors
     ///
     /// `NoMemory`, and no other.
-    pub fn watched(self, alloc: Global) -> Result<WatchedRun<'a>, RunFault>
+    pub fn watched(self, alloc: Global) -> Result<ObservedRun<'a>, RunFault>
         ensures watched { IfOk result (λ r. r.watching ≡ watching_from (machine_of self.entry)) }
-        ensures asks { IfOk result (λ r. IsOf self.entry r.asks) }
+        ensures pending { IfOk result (λ r. IsOf self.entry r.pending) }
         ensures refused { IfErr result (λ e. e ≡ RunFault.NoMemory) }
     {
         let machine = self.machine(alloc)?;
-        Ok(WatchedRun::new(machine, self.asks()))
+        Ok(ObservedRun::new(machine, self.pending()))
     }
 }

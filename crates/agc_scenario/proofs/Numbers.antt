@@ -13,8 +13,8 @@ none_or k o e f = absurd (cc (e, f))
 
 -- if what stands there calls nothing, the text names nothing
 only_called : (find : List ℕ → Option ℕ) (front back text called : List ℕ) → text ≡ front ++ (called ++ back) → None ≡ find called → ((k : ℕ) → ¬ (Names find front back text k))
-only_called find front back text called is named =
-    λ k h. none_or k (find h.0) (named ∙ ap find (append_cancel_right called h.0 back (append_cancel_left front (called ++ back) (h.0 ++ back) (sym is ∙ h.1)))) h.2
+only_called find front back text called is read_named =
+    λ k h. none_or k (find h.0) (read_named ∙ ap find (append_cancel_right called h.0 back (append_cancel_left front (called ++ back) (h.0 ++ back) (sym is ∙ h.1)))) h.2
 
 -- what a text names by what stands there, and that it names nothing else
 pub names_found : (find : List ℕ → Option ℕ) (front back text called : List ℕ) (found : Option ℕ) → text ≡ front ++ (called ++ back) → found ≡ find called → IfSome found (Names find front back text)

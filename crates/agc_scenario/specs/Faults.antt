@@ -14,8 +14,8 @@ use Rattle.agc_scenario.specs.Scenarios.{Scenarioed, IsInRange, scenario_texts}
 abbrev pub HasTexts : Option Members → ScenarioTexts → Type 0
 HasTexts document texts = (ms : Members) × (document ≡ Some ms) × (scenario_in ms ≡ Some texts)
 
--- why numbers and texts spell no scenario, by their first fault, want of memory aside: a text of no
--- form, or a scenario in its ranges whose rows and entries make no plan
+-- why numbers and texts spell no scenario, by their first fault, unless memory runs out: a text of
+-- no form, or a scenario in its ranges whose rows and entries make no plan
 abbrev pub RefusesTexts : ScenarioTexts → BenchFault → Type 0
 RefusesTexts texts refusal.NoMemory = Unit {0}
 RefusesTexts texts refusal.NotToml = ⊥
@@ -24,7 +24,7 @@ RefusesTexts texts refusal.Line = (s : Scenarioed) → IsInRange s → texts ≢
 RefusesTexts texts fault = (s : Scenarioed) × IsInRange s × (texts ≡ scenario_texts s)
     × (option_map bench_fault (fault_of s.bench.rows s.bench.entries) ≡ Some fault)
 
--- why a document is no scenario, by its first fault, want of memory aside
+-- why a document is no scenario, by its first fault, unless memory runs out
 abbrev pub RefusesScenario : Option Members → BenchFault → Type 0
 RefusesScenario document refusal.NoMemory = Unit {0}
 RefusesScenario document refusal.NotToml = document ≡ None

@@ -20,9 +20,9 @@ use Rattle.agc_scenario.specs.declared.timing.CostRange.{CostRange}
 use Rattle.agc_scenario.specs.Texts.{Named, NamedTexts, JobTexts, EventTexts}
 use Rattle.agc_scenario.specs.Texts.{TimingTexts, ScenarioTexts, alarm_called, is_named}
 
--- what reading gives of a table, and its name
-unfoldable pub named : {X : Type 0} → (Members → Option X) → Members → Option (Named X)
-named fields ms = do
+-- the value of a table, and its name
+unfoldable pub read_named : {X : Type 0} → (Members → Option X) → Members → Option (Named X)
+read_named fields ms = do
   item ← fields ms
   name ← read_if text_of own.NAME ms
   Some (record { item = item; name = name })
@@ -73,14 +73,14 @@ drawn_cost d = do
   to ← read_at number_of own.MOST ms
   ascending (record { from = from; to = to })
 
--- what a job costs: always as much, or by lot
+-- a job's cost: a fixed number, or a range from which it is drawn
 abbrev pub cost : AnyKey → Data → Option CostRange
 cost k d = elim (as_table d) [
   | Some ms ↦ drawn_cost d
   | None ↦ number_of k d >>= λ n. Some (record { from = n; to = n })
 ]
 
--- what a job costs, and what it is asked
+-- a job, with its cost and its requests
 unfoldable pub job : Members → Option JobTexts
 job ms = do
   at ← read_at text_of key.AT ms
@@ -123,7 +123,7 @@ abbrev pub can_draw : Option ℕ → List JobTexts → Bool
 can_draw (Some seed) jobs = true
 can_draw None jobs = list_all (λ j. not (nat_lt j.cost.from j.cost.to)) jobs
 
--- whether one of these events has the name, if it is there, or it calls an alarm
+-- true if there is no name, if an event has it, or if it is that of an alarm
 abbrev pub has_named : List EventTexts → Option (List ℕ) → Bool
 has_named events None = true
 has_named events (Some name) =
@@ -168,33 +168,32 @@ timing_in ms = do
 -- the tasks and phases
 unfoldable pub named_in : Members → Option NamedTexts
 named_in ms = do
-  rows ← read_or [] (tables_of own.NAMED_TASK_KEYS (named row)) own.NAMED_TASKS ms
-  entries ← read_or [] (tables_of own.NAMED_PHASE_KEYS (named entry)) own.NAMED_PHASES ms
+  rows ← read_or [] (tables_of own.NAMED_TASK_KEYS (read_named row)) own.NAMED_TASKS ms
+  entries ← read_or [] (tables_of own.NAMED_PHASE_KEYS (read_named entry)) own.NAMED_PHASES ms
   Some (record { rows = rows; entries = entries })
 
 -- the lists of a bench that has these tasks and phases, and asks for nothing by itself
 abbrev pub lists_of : NamedTexts → Lists
-lists_of named =
+lists_of read_named =
     record {
       script = [];
-      rows = map (λ n. n.item) named.rows;
-      entries = map (λ n. n.item) named.entries;
+      rows = map (λ n. n.item) read_named.rows;
+      entries = map (λ n. n.item) read_named.entries;
       workers = [];
       devices = [];
     }
 
 -- the texts of a scenario that has these settings, tasks and phases
 abbrev pub texts_with : Settings → NamedTexts → TimingTexts → ScenarioTexts
-texts_with settings named timing =
+texts_with settings read_named timing =
     record {
-      bench = record { settings = settings; lists = lists_of named };
-      row_names = map (λ n. n.name) named.rows;
-      entry_names = map (λ n. n.name) named.entries;
+      bench = record { settings = settings; lists = lists_of read_named };
+      row_names = map (λ n. n.name) read_named.rows;
+      entry_names = map (λ n. n.name) read_named.entries;
       timing = timing;
     }
 
--- what a scenario has once, as a bench has it; without a limit or an allowance there are the
--- greatest
+-- the single values of a scenario: as in a bench, but the greatest limit and allowance by default
 unfoldable pub ample_settings_in : Members → Option Settings
 ample_settings_in ms = do
   settings ← settings_in ms
@@ -207,9 +206,9 @@ unfoldable pub scenario_in : Members → Option ScenarioTexts
 scenario_in ms = do
   known ← known_to own.SCENARIO_KEYS ms
   settings ← ample_settings_in known
-  named ← named_in known
+  read_named ← named_in known
   timing ← timing_in known
-  Some (texts_with settings named timing)
+  Some (texts_with settings read_named timing)
 
 -- whether a document has the key `seconds`, and so should be a scenario
 abbrev pub has_seconds : Members → Bool

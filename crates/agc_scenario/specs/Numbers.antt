@@ -12,7 +12,7 @@ use Rattle.agc_scenario.specs.declared.rows.TheConstants as own
 use Rattle.agc_scenario.specs.declared.changing.Number.{Number}
 use Rattle.agc_scenario.specs.declared.changing.Number.TheVariants as number
 use Rattle.agc_scenario.specs.Texts.{is_named}
-use Rattle.agc_scenario.specs.Scenarios.{TimedJob, TimedEvent, Timed, counted}
+use Rattle.agc_scenario.specs.Scenarios.{TimedJob, TimedEvent, Timed, with_bases}
 use Rattle.agc_scenario.specs.Keys.{always}
 
 -- the place of the first job of this name, or else of the first that has this address
@@ -85,7 +85,7 @@ exchanged number.Seconds value t = record t { seconds = value }
 exchanged number.Seed value t = record t { seed = Some value }
 exchanged (number.Cost k) value t = record t { jobs = change_at (job_with value) k t.jobs }
 exchanged (number.Moment k) value t =
-    record t { events = counted [] (change_at (event_with (number.Moment k) value) k t.events) }
+    record t { events = with_bases [] (change_at (event_with (number.Moment k) value) k t.events) }
 exchanged (number.Every k) value t =
     record t { events = change_at (event_with (number.Every k) value) k t.events }
 exchanged (number.Until k) value t =

@@ -25,14 +25,13 @@ use Rattle.agc_clock.specs.declared.timetable.Step.{Step}
 use Rattle.agc_clock.specs.declared.timetable.Stolen.{Stolen}
 use Rattle.agc_clock.specs.declared.timetable.Then.{Then}
 use Rattle.agc_clock.specs.declared.timetable.Then.TheVariants as then
-use Rattle.agc_scenario.specs.declared.timing.Base.{Base}
+use Rattle.agc_scenario.specs.declared.timing.EventBase.{EventBase}
 use Rattle.agc_scenario.specs.declared.timing.CostRange.{CostRange}
 use Rattle.agc_scenario.specs.Texts.{JobTexts, EventTexts, TimingTexts, ScenarioTexts}
 use Rattle.agc_scenario.specs.Texts.{alarm_called, is_named}
 
--- what a job costs at least and at most, in centiseconds of computing, that stands at an address,
--- how many centiseconds it may take, if that is told, what it is asked when its cost is used up,
--- and its name
+-- a job at an address: the least and the most that it costs, in centiseconds of computing; its
+-- deadline in centiseconds, if it has one; its requests when its cost is used up; and its name
 pub record TimedJob : Type 0 where
   pub at : ℕ
   pub cost : CostRange
@@ -46,7 +45,7 @@ pub record TimedJob : Type 0 where
 pub record TimedEvent : Type 0 where
   pub at : ℕ
   pub after : Option (List ℕ)
-  pub base : Base
+  pub base : EventBase
   pub requests : List Request
   pub every : Option ℕ
   pub until : Option ℕ
@@ -70,18 +69,18 @@ pub record Scenarioed : Type 0 where
   pub entry_names : List (Option (List ℕ))
   pub timing : Timed
 
--- when an event comes, of a scenario that lasts so many centiseconds: once, or again and again, to
--- its last time or the scenario's
+-- when an event comes, of a scenario that lasts this many centiseconds: once, or again and again,
+-- to its last time or the scenario's
 abbrev pub comes_by : ℕ → Option ℕ → Option ℕ → ℕ → Coming
 comes_by at None until lasts = record { at = at; every = 1; until = at }
 comes_by at (Some every) None lasts = record { at = at; every = every; until = lasts }
 comes_by at (Some every) (Some until) lasts = record { at = at; every = every; until = until }
 
--- the centisecond that is so long after another, or the first after a day, where it is later
+-- the centisecond that is so long after another, or the first after a day, if it is later
 abbrev pub later : ℕ → ℕ → ℕ
 later from long = min (from + long) (LAST_TIME + 1)
 
--- what counts from an alarm comes at least a centisecond after it
+-- an event that counts from an alarm comes at least a centisecond after it
 abbrev pub not_at_once : Option Alarm → ℕ → ℕ
 not_at_once None first = first
 not_at_once (Some alarm) first = max 1 first
@@ -96,31 +95,31 @@ last_time_of e = option_map (later e.base.from) e.until
 
 -- from what an event counts that names this: from the first of these events that has the name, or
 -- else from the alarm that it calls
-abbrev pub first_called : List ℕ → List TimedEvent → Base
+abbrev pub first_called : List ℕ → List TimedEvent → EventBase
 first_called name [] = record { alarm = alarm_called name; from = 0 }
 first_called name (e ∷ es) =
     if is_named name e.name then record { alarm = e.base.alarm; from = first_of e }
     else first_called name es
 
 -- from what an event counts: the start, or what it names, below these events
-abbrev pub base_of : List TimedEvent → Option (List ℕ) → Base
+abbrev pub base_of : List TimedEvent → Option (List ℕ) → EventBase
 base_of above None = record { alarm = None; from = 0 }
 base_of above (Some name) = first_called name above
 
-abbrev pub placed : List TimedEvent → TimedEvent → TimedEvent
-placed above e = record e { base = base_of above e.after }
+abbrev pub with_base : List TimedEvent → TimedEvent → TimedEvent
+with_base above e = record e { base = base_of above e.after }
 
 -- events, each with what it counts from; those above are counted
-abbrev pub counted : List TimedEvent → List TimedEvent → List TimedEvent
-counted above [] = []
-counted above (e ∷ es) = placed above e ∷ counted (above ++ placed above e ∷ []) es
+abbrev pub with_bases : List TimedEvent → List TimedEvent → List TimedEvent
+with_bases above [] = []
+with_bases above (e ∷ es) = with_base above e ∷ with_bases (above ++ with_base above e ∷ []) es
 
 -- when an event comes that counts from the start, or from an alarm, where these came so far
 abbrev pub counted_by : Alarms → Option Alarm → Coming → Coming
 counted_by alarms None times = times
 counted_by alarms (Some alarm) times = times_after (first_came alarm alarms) times
 
--- an event of a scenario that lasts so many centiseconds
+-- an event of a scenario that lasts this many centiseconds
 abbrev pub event_of : ℕ → Alarms → TimedEvent → Event
 event_of lasts alarms e = record {
   times = counted_by alarms e.base.alarm (comes_by (first_of e) e.every (last_time_of e) lasts);
@@ -145,7 +144,7 @@ step_in requests number = option_and_then step_of (slice_get requests number)
 abbrev pub leaves_by : List Request → Then
 leaves_by requests = unwrap_or (option_and_then then_of (last_of requests)) then.End
 
--- what a job costs, in hundredths of a centisecond: the most, of which a lot may spare it some
+-- a job's cost in hundredths of a centisecond: the most, which a draw may reduce
 abbrev pub cost_of : TimedJob → Cost
 cost_of j = record {
   at = j.at;
@@ -159,7 +158,7 @@ cost_of j = record {
 abbrev pub seed_of : Timed → ℕ
 seed_of t = unwrap_or t.seed 0
 
--- what is set down for a clock, where these alarms came so far
+-- the schedule of a clock, given the alarms so far
 abbrev pub schedule_of : Timed → Alarms → Schedule
 schedule_of t alarms =
     record {
@@ -227,15 +226,15 @@ abbrev pub leaves_at_last : List Request → Bool
 leaves_at_last requests = is_some (option_and_then then_of (last_of requests))
 
 -- whether a job can ask for these requests: for steps, and at last to end or to sleep
-abbrev pub are_asked : List Request → Bool
-are_asked requests =
+abbrev pub are_job_requests : List Request → Bool
+are_job_requests requests =
     list_all is_step (take (length requests - 1) requests) && leaves_at_last requests
 
 -- the ranges of what a job costs
 pub record IsTimedJob (j : TimedJob) : Type 0 where
   pub at : IsAddress j.at
   pub requests : AllByRecursion IsRequest j.requests
-  pub asked : are_asked j.requests ≡ true
+  pub asked : are_job_requests j.requests ≡ true
   pub name : can_be_shown j.name ≡ true
 
 -- the ranges of an event
@@ -247,7 +246,7 @@ pub record IsTimedEvent (e : TimedEvent) : Type 0 where
 -- the ranges of how time passes, in which each event counts from what it names
 pub record IsTimed (t : Timed) : Type 0 where
   pub title : can_be_shown t.title ≡ true
-  pub bases : counted [] t.events ≡ t.events
+  pub bases : with_bases [] t.events ≡ t.events
   pub jobs : AllByRecursion IsTimedJob t.jobs
   pub events : AllByRecursion IsTimedEvent t.events
 

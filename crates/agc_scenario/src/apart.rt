@@ -8,9 +8,9 @@ ghost use Rattle.agc_scenario.specs.Keys.{are_apart, are_distinct};
 use crate::rows::{JOBS, STEAL};
 use crate::texts::JobTexts;
 use agc_clock::Stolen;
-use agc_document::{Key, KeyFault, Notes, Place};
+use agc_document::{Key, KeyFault, Location, Notes};
 
-/// Whether a row of stolen time overlaps none of these.
+/// Whether a row of stolen time overlaps none of the others.
 fn overlaps_none(row: Stolen, others: &[Stolen]) -> bool
     ensures { result ≡ list_all (λ other. not (overlap row other)) others.now }
 {
@@ -18,7 +18,7 @@ fn overlaps_none(row: Stolen, others: &[Stolen]) -> bool
 }
 
 /// Whether no two of these rows of stolen time overlap; the first has this number. The first row
-/// that an earlier one overlaps is noted.
+/// that overlaps an earlier one is noted.
 pub(crate) fn are_apart(rows: &[Stolen], number: u64, notes: &mut Notes<'_>) -> bool
     ensures { result ≡ are_apart rows.now }
 {
@@ -35,15 +35,14 @@ pub(crate) fn are_apart(rows: &[Stolen], number: u64, notes: &mut Notes<'_>) -> 
     }
 }
 
-/// The place of a table of a key's array, so many and one behind the one of this number.
-fn later_place(key: Key, number: u64, later: usize) -> Place {
+/// The place of a table in a key's array, `later` places after the one that follows this number.
+fn later_place(key: Key, number: u64, later: usize) -> Location {
     let number = number.saturating_add(later as u64).saturating_add(1);
-    Place::Table(key, number)
+    Location::Table(key, number)
 }
 
-/// The place of the first of these rows that this one overlaps, which has this number and stands
-/// before them.
-fn overlap_place(row: Stolen, others: &[Stolen], number: u64) -> Place {
+/// The place of the first later row that overlaps this one, which has this number.
+fn overlap_place(row: Stolen, others: &[Stolen], number: u64) -> Location {
     let later = others
         .iter()
         .take_while(|other| !row.overlaps(*other))
@@ -51,9 +50,8 @@ fn overlap_place(row: Stolen, others: &[Stolen], number: u64) -> Place {
     later_place(STEAL, number, later)
 }
 
-/// The place of the first of these jobs that has this address, as that of this number has, which
-/// stands before them.
-fn twin_place(at: &str, others: &[JobTexts<'_>], number: u64) -> Place {
+/// The place of the first later job with this address. The job that has it first has this number.
+fn twin_place(at: &str, others: &[JobTexts<'_>], number: u64) -> Location {
     let later = others
         .iter()
         .take_while(|other| other.at.as_str() != at)
@@ -61,7 +59,6 @@ fn twin_place(at: &str, others: &[JobTexts<'_>], number: u64) -> Place {
     later_place(JOBS, number, later)
 }
 
-/// Whether one of these jobs has this address.
 fn is_listed(jobs: &[JobTexts<'_>], at: &str) -> bool
     ensures { result ≡ is_among (map (λ j. j.at) jobs.now) at.now }
 {

@@ -1,4 +1,4 @@
-//! One number of a scenario, exchanged for another.
+//! Changing one number of a scenario.
 ghost use Rattle.std.specs.Prelude.{◌≡◌, ◌≢◌, ◌≤◌, ◌++◌, [], ℕ, List, codes, IfSome, IfNone};
 ghost use Rattle.std.specs.Prelude.{OnOk, OnErr};
 ghost use Rattle.std.specs.List.{position};
@@ -8,7 +8,7 @@ ghost use Rattle.agc_document.specs.Keys.{least, most};
 ghost use Rattle.agc_scenario.specs.declared.changing.Number.{Number as AnyNumber};
 ghost use Rattle.agc_scenario.specs.declared.changing.Number.TheVariants.{Moment as MomentOf};
 ghost use Rattle.agc_scenario.specs.Texts.{is_named};
-ghost use Rattle.agc_scenario.specs.Scenarios.{counted};
+ghost use Rattle.agc_scenario.specs.Scenarios.{with_bases};
 ghost use Rattle.agc_scenario.specs.Numbers.{job_called, event_called, NamesJob};
 ghost use Rattle.agc_scenario.specs.Numbers.{NamesEvent, NamesNumber, key_of, nearest, change_at};
 ghost use Rattle.agc_scenario.specs.Numbers.{job_with, event_with, exchanged, FitsIn};
@@ -21,8 +21,8 @@ use agc_document::Key;
 use agc_text::parse_address;
 use std::alloc::{AllocError, Global};
 
-/// A number of a scenario: the percent that is stolen all the time, how many seconds it lasts, the
-/// seed of its lots, or a number of the job or event of this index. Source: profile.
+/// A number of a scenario: the percentage that is stolen all the time, how many seconds it lasts,
+/// the seed of its draws, or a number of the job or event of this index.
 #[derive(Clone, Copy)]
 pub enum Number {
     Steal,
@@ -50,7 +50,7 @@ impl Number {
         }
     }
 
-    /// The least and the most that it may be. Source: profile.
+    /// The least and the most that the number may be.
     pub fn range(self) -> (u64, u64)
         ensures least { result.0 ≡ least (key_of self) }
         ensures most { result.1 ≡ most (key_of self) }
@@ -69,7 +69,7 @@ impl Number {
     }
 }
 
-/// What stands in a text between these two.
+/// The part of a text between `front` and `back`, if it has both.
 fn between<'a>(text: &'a str, front: &str, back: &str) -> Option<&'a str>
     ensures found { IfSome result (λ called. text.now ≡ front.now ++ (called.now ++ back.now)) }
     ensures only { IfNone result
@@ -90,7 +90,7 @@ fn is_at(job: &TimedJob, text: &str) -> bool
     }
 }
 
-/// Exchanges what a job costs: from now on always this much.
+/// Sets a job's cost: from now on always this much.
 fn change_cost(job: &mut TimedJob, value: u32)
     requires { value ≤ 1000000 }
     ensures { job.new ≡ job_with value job.old }
@@ -101,7 +101,7 @@ fn change_cost(job: &mut TimedJob, value: u32)
     };
 }
 
-/// Exchanges a number of an event.
+/// Sets a number of an event.
 fn change_event(event: &mut TimedEvent, number: Number, value: u32)
     requires { FitsIn number value }
     ensures { event.new ≡ event_with number value event.old }
@@ -114,7 +114,7 @@ fn change_event(event: &mut TimedEvent, number: Number, value: u32)
     }
 }
 
-/// Exchanges what the job at this place costs, if there is one.
+/// Sets the cost of the job at this place, if there is one.
 #[tactic(auto, using(crate::proofs::Numbers::job_changed, crate::proofs::Numbers::changed_out))]
 fn change_job_at(jobs: &mut Vec<TimedJob>, k: usize, value: u32)
     requires { value ≤ 1000000 }
@@ -125,7 +125,7 @@ fn change_job_at(jobs: &mut Vec<TimedJob>, k: usize, value: u32)
     }
 }
 
-/// Exchanges a number of the event at this place, if there is one.
+/// Sets a number of the event at this place, if there is one.
 #[tactic(auto, using(crate::proofs::Numbers::event_changed, crate::proofs::Numbers::changed_out))]
 fn change_event_at(events: &mut Vec<TimedEvent>, k: usize, number: Number, value: u32)
     requires { FitsIn number value }
@@ -136,11 +136,11 @@ fn change_event_at(events: &mut Vec<TimedEvent>, k: usize, number: Number, value
     }
 }
 
-/// Exchanges when the event at this place comes, if there is one, and so when those come that count
-/// from it.
+/// Sets the time at which the event at this place comes, if there is one, and so the times of those
+/// that count from it.
 fn change_moment_at(events: &mut Vec<TimedEvent>, k: usize, value: u32)
     ensures { events.new.items
-        ≡ counted [] (change_at (event_with (MomentOf k) value) k events.old.items) }
+        ≡ with_bases [] (change_at (event_with (MomentOf k) value) k events.old.items) }
 {
     change_event_at(events, k, Number::Moment(k), value);
     count(events);
@@ -186,7 +186,7 @@ impl Timing {
         self.job_called(between(text, "job.", ".cost")?)
     }
 
-    /// The event of which a text names the number of this key.
+    /// The event whose number, under this key, a text names.
     #[tactic(auto, using(crate::proofs::Numbers::names_found, crate::proofs::Numbers::only_event))]
     fn event_named(&self, key: &str, text: &str) -> Option<usize>
         ensures found { IfSome result (NamesEvent self.now.events key.now text.now) }
@@ -196,7 +196,7 @@ impl Timing {
         self.event_called(between(text, "event.", key)?)
     }
 
-    /// Exchanges a number. Where there is no memory, nothing is exchanged.
+    /// Sets a number. If memory runs out, nothing changes.
     fn exchange(&mut self, alloc: Global, number: Number, value: u32) -> Result<(), AllocError>
         requires { FitsIn number value }
         ensures ok { OnOk result (self.new ≡ exchanged number value self.old) }
@@ -219,9 +219,9 @@ impl Timing {
 }
 
 impl Scenario {
-    /// The number that is named `steal`, `seconds`, `seed`, `job.NAME.cost`, `event.NAME.at`,
+    /// The number with this name: `steal`, `seconds`, `seed`, `job.NAME.cost`, `event.NAME.at`,
     /// `event.NAME.every` or `event.NAME.until`, where a job without a name is named by its
-    /// address; None where the scenario has no such job or event. Source: profile.
+    /// address. None if the scenario has no such job or event.
     pub fn number(&self, name: &str) -> Option<Number>
         ensures found { IfSome result (NamesNumber self.now.timing name.now) }
         ensures only { IfNone result
@@ -252,11 +252,11 @@ impl Scenario {
         }
     }
 
-    /// Exchanges a number for another, or for the nearest in its range. Source: profile.
+    /// Sets a number, or the nearest in its range.
     ///
     /// # Errors
     ///
-    /// Where there is no memory; nothing is exchanged.
+    /// If memory runs out; nothing is exchanged.
     pub fn exchange(&mut self, alloc: Global, number: Number, value: u64) -> Result<(), AllocError>
         ensures ok { OnOk result (self.new ≡ record self.old
             { timing = exchanged number (nearest number value) self.old.timing }) }

@@ -1,5 +1,5 @@
-//! Costs that are drawn by lot without a seed, and events that count from none above them and from
-//! no alarm.
+//! Costs that are drawn without a seed, and events that count neither from one above them nor from
+//! an alarm.
 ghost use Rattle.std.specs.Prelude.{◌≡◌, [], not, nat_lt};
 ghost use Rattle.std.specs.List.{list_all, list_any};
 ghost use Rattle.agc_scenario.specs.Texts.{is_named};
@@ -8,7 +8,7 @@ ghost use Rattle.agc_scenario.specs.Keys.{can_draw, count_from_above, has_named}
 use crate::rows::{AFTER, COST, EVENTS, JOBS};
 use crate::texts::{EventTexts, JobTexts};
 use crate::timing::alarm_called;
-use agc_document::{KeyFault, Notes, Place, Text};
+use agc_document::{KeyFault, Location, Notes, Text};
 
 /// Whether a job costs the same each time.
 fn is_plain(job: &JobTexts<'_>) -> bool
@@ -17,15 +17,15 @@ fn is_plain(job: &JobTexts<'_>) -> bool
     job.cost.to <= job.cost.from
 }
 
-/// Whether each of these does.
+/// Whether all jobs cost the same each time.
 fn are_plain(jobs: &[JobTexts<'_>]) -> bool
     ensures { result ≡ list_all (λ j. not (nat_lt j.cost.from j.cost.to)) jobs.now }
 {
     jobs.iter().all(|job| is_plain(job))
 }
 
-/// Whether lots can be drawn: there is a seed, or no cost is by lot. If not, the first cost that is
-/// by lot is noted.
+/// Whether costs can be drawn: there is a seed, or no cost is drawn. If not, the first cost that is
+/// drawn is noted.
 pub(crate) fn can_draw(seed: Option<u32>, jobs: &[JobTexts<'_>], notes: &mut Notes<'_>) -> bool
     ensures { result ≡ can_draw seed jobs.now }
 {
@@ -33,12 +33,12 @@ pub(crate) fn can_draw(seed: Option<u32>, jobs: &[JobTexts<'_>], notes: &mut Not
         return true;
     }
     let before = jobs.iter().take_while(|job| is_plain(job)).count();
-    let place = Place::Field(JOBS, (before as u64).saturating_add(1), COST);
+    let place = Location::Field(JOBS, (before as u64).saturating_add(1), COST);
     notes.key(place, "", KeyFault::NoSeed);
     false
 }
 
-/// Whether a name is there, and is this text.
+/// Whether there is a name, and it is this text.
 fn is_named(name: &Option<Text<'_>>, called: &str) -> bool
     ensures { result ≡ is_named called.now name.now }
 {
@@ -48,14 +48,13 @@ fn is_named(name: &Option<Text<'_>>, called: &str) -> bool
     }
 }
 
-/// Whether one of these events has this name.
 fn is_any_named(events: &[EventTexts<'_>], called: &str) -> bool
     ensures { result ≡ list_any (λ e. is_named called.now e.name) events.now }
 {
     events.iter().any(|event| is_named(&event.name, called))
 }
 
-/// Whether one of these events has the name, if it is there, or it calls an alarm.
+/// True if there is no name, if an event has it, or if it is that of an alarm.
 fn has_named(events: &[EventTexts<'_>], name: &Option<Text<'_>>) -> bool
     ensures { result ≡ has_named events.now name.now }
 {
@@ -74,7 +73,7 @@ pub(crate) fn count_from_above(events: &[EventTexts<'_>], notes: &mut Notes<'_>)
 {
     for (k, event) in events.iter().enumerate() {
         if !has_named(&events[..k], &event.after) {
-            let place = Place::Field(EVENTS, (k as u64).saturating_add(1), AFTER);
+            let place = Location::Field(EVENTS, (k as u64).saturating_add(1), AFTER);
             notes.key(place, "", KeyFault::NoneAbove);
             return false;
         }

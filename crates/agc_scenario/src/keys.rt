@@ -7,7 +7,7 @@ ghost use Rattle.agc_document.specs.Gives.{GivesOrKey};
 ghost use Rattle.agc_document.specs.Keys.{entry, least, most, number_of, read_at, read_if};
 ghost use Rattle.agc_document.specs.Keys.{read_or, row, texts_of};
 ghost use Rattle.agc_scenario.specs.declared.rows.TheConstants as key_of;
-ghost use Rattle.agc_scenario.specs.Keys.{forward, stolen_rows, named};
+ghost use Rattle.agc_scenario.specs.Keys.{forward, stolen_rows, read_named};
 ghost use Rattle.agc_scenario.specs.Keys.{stolen_row, job, event, always, ample_settings_in};
 ghost use Rattle.agc_scenario.specs.Keys.{ascending, cost, drawn_cost, is_coherent};
 ghost use Rattle.agc_scenario.specs.Keys.{timing_in, named_in, texts_with, scenario_in};
@@ -26,22 +26,23 @@ use crate::timing::CostRange;
 use agc_clock::{LAST_TIME, Stolen};
 use agc_document::rows::{ALLOWANCE, AT, LIMIT};
 use agc_document::{
-    BenchFault, EntryTexts, FromData, FromTable, Key, KeyFault, Level, Lists, Notes, Place, Placed,
-    RowTexts, Settings, Site, Text, TextList, Texts, has_only, items_of, items_or_none, read_at,
-    read_if, read_or, settings_in, table_in, value_of,
+    BenchFault, EntryTexts, FromData, FromTable, Key, KeyFault, Level, Lists, LocatedTable,
+    LocatedValue, Location, Notes, RowTexts, Settings, Text, TextList, Texts, has_only, items_of,
+    items_or_none, read_at, read_if, read_or, settings_in, table_in, value_of,
 };
 use agc_text::parse_line;
 use std::alloc::{AllocError, Global};
 use toml::{Table, Value};
 
-/// What a table is read as, and its name.
-#[tactic(auto, unfolding(crate::specs::Keys::named))]
-fn named<'a, T: FromTable<'a>>(
-    site: Site<'a>,
+/// Reads a table and its name.
+#[tactic(auto, unfolding(crate::specs::Keys::read_named))]
+fn read_named<'a, T: FromTable<'a>>(
+    site: LocatedTable<'a>,
     key: Key,
     notes: &mut Notes<'a>,
 ) -> Result<Named<'a, T>, BenchFault>
-    ensures { GivesOrKey (λ n. n) result (named (T.fields key) (table_view site.entry.table.now)) }
+    ensures { GivesOrKey (λ n. n) result
+        (read_named (T.fields key) (table_view site.entry.table.now)) }
 {
     let item = T::from_table(site, key, notes);
     let name = read_if(site, NAME, notes);
@@ -54,33 +55,49 @@ fn named<'a, T: FromTable<'a>>(
 impl<'a> FromTable<'a> for Named<'a, RowTexts<'a>> {
     ghost keys = { λ k. key_of.NAMED_TASK_KEYS };
 
-    ghost fields = { λ k. named row };
+    ghost fields = { λ k. read_named row };
 
-    fn known(site: Site<'a>, _key: Key, notes: &mut Notes<'a>) -> Result<(), BenchFault> {
+    fn check_keys(
+        site: LocatedTable<'a>,
+        _key: Key,
+        notes: &mut Notes<'a>,
+    ) -> Result<(), BenchFault> {
         has_only(site, &NAMED_TASK_KEYS, Level::NamedTask, notes)
     }
 
-    fn from_table(site: Site<'a>, key: Key, notes: &mut Notes<'a>) -> Result<Self, BenchFault> {
-        named(site, key, notes)
+    fn from_table(
+        site: LocatedTable<'a>,
+        key: Key,
+        notes: &mut Notes<'a>,
+    ) -> Result<Self, BenchFault> {
+        read_named(site, key, notes)
     }
 }
 
 impl<'a> FromTable<'a> for Named<'a, EntryTexts<'a>> {
     ghost keys = { λ k. key_of.NAMED_PHASE_KEYS };
 
-    ghost fields = { λ k. named entry };
+    ghost fields = { λ k. read_named entry };
 
-    fn known(site: Site<'a>, _key: Key, notes: &mut Notes<'a>) -> Result<(), BenchFault> {
+    fn check_keys(
+        site: LocatedTable<'a>,
+        _key: Key,
+        notes: &mut Notes<'a>,
+    ) -> Result<(), BenchFault> {
         has_only(site, &NAMED_PHASE_KEYS, Level::NamedPhase, notes)
     }
 
-    fn from_table(site: Site<'a>, key: Key, notes: &mut Notes<'a>) -> Result<Self, BenchFault> {
-        named(site, key, notes)
+    fn from_table(
+        site: LocatedTable<'a>,
+        key: Key,
+        notes: &mut Notes<'a>,
+    ) -> Result<Self, BenchFault> {
+        read_named(site, key, notes)
     }
 }
 
 /// The row of stolen time, if it ends after it begins, and doesn't come again before it ends.
-fn forward<'a>(row: Stolen, place: Place, notes: &mut Notes<'a>) -> Result<StolenRow, BenchFault>
+fn forward<'a>(row: Stolen, place: Location, notes: &mut Notes<'a>) -> Result<StolenRow, BenchFault>
     ensures value { GivesOrKey (λ r. r) result (forward row) }
 {
     if row.to <= row.from {
@@ -104,7 +121,11 @@ fn small(number: Option<u64>) -> Option<u32>
 }
 
 /// An integer of a table, if it is there.
-fn number_if<'a>(site: Site<'a>, key: Key, notes: &mut Notes<'a>) -> Result<Option<u32>, BenchFault>
+fn number_if<'a>(
+    site: LocatedTable<'a>,
+    key: Key,
+    notes: &mut Notes<'a>,
+) -> Result<Option<u32>, BenchFault>
     requires { most key ≤ 2147483646 }
     ensures value { GivesOrKey (λ o. o) result
         (read_if number_of key (table_view site.entry.table.now)) }
@@ -119,13 +140,17 @@ impl<'a> FromTable<'a> for StolenRow {
 
     ghost fields = { λ k. stolen_row };
 
-    fn known(site: Site<'a>, _key: Key, notes: &mut Notes<'a>) -> Result<(), BenchFault> {
+    fn check_keys(
+        site: LocatedTable<'a>,
+        _key: Key,
+        notes: &mut Notes<'a>,
+    ) -> Result<(), BenchFault> {
         has_only(site, &STEAL_KEYS, Level::Steal, notes)
     }
 
     #[tactic(auto, unfolding(crate::specs::Keys::stolen_row))]
     fn from_table(
-        site: Site<'a>,
+        site: LocatedTable<'a>,
         _key: Key,
         notes: &mut Notes<'a>,
     ) -> Result<StolenRow, BenchFault> {
@@ -151,15 +176,15 @@ impl<'a> FromTable<'a> for StolenRow {
     }
 }
 
-/// Notes a request of a job that stands where it can't ask for it.
-fn look_at_request<'a>(text: &'a str, is_last: bool, place: Place, notes: &mut Notes<'a>) {
+/// Notes a request of a job at a place where the job can't make it.
+fn look_at_request<'a>(text: &'a str, is_last: bool, place: Location, notes: &mut Notes<'a>) {
     if parse_line(text).is_some() {
         notes.look_at(place, text, if is_last { LAST } else { BEFORE });
     }
 }
 
-/// Notes the requests of a job that stand where it can't ask for them.
-fn look_at_order<'a>(site: Site<'a>, notes: &mut Notes<'a>) {
+/// Notes the requests of a job at places where the job can't make them.
+fn look_at_order<'a>(site: LocatedTable<'a>, notes: &mut Notes<'a>) {
     let Some(value) = value_of(site.table, THEN) else {
         return;
     };
@@ -180,7 +205,7 @@ fn look_at_order<'a>(site: Site<'a>, notes: &mut Notes<'a>) {
 /// A cost, if its least isn't above its most.
 fn ascending<'a>(
     cost: CostRange,
-    place: Place,
+    place: Location,
     notes: &mut Notes<'a>,
 ) -> Result<CostRange, BenchFault>
     ensures value { GivesOrKey (λ c. c) result (ascending cost) }
@@ -194,16 +219,19 @@ fn ascending<'a>(
     }
 }
 
-/// A cost that is drawn by lot.
+/// A cost that is drawn.
 #[tactic(auto, unfolding(crate::specs::Keys::drawn_cost))]
-fn drawn_cost<'a>(placed: Placed<'a>, notes: &mut Notes<'a>) -> Result<CostRange, BenchFault>
-    ensures value { GivesOrKey (λ c. c) result (drawn_cost (view placed.entry.value.now)) }
+fn drawn_cost<'a>(
+    with_base: LocatedValue<'a>,
+    notes: &mut Notes<'a>,
+) -> Result<CostRange, BenchFault>
+    ensures value { GivesOrKey (λ c. c) result (drawn_cost (view with_base.entry.value.now)) }
     ensures order { IfOk result (λ c. c.from ≤ c.to) }
     ensures range { IfOk result (λ c. c.to ≤ 1000000) }
 {
-    let site = table_in(placed, notes)?;
-    let known = has_only(site, &COST_KEYS, Level::Cost, notes);
-    let from: Result<u64, BenchFault> = known.and(read_at(site, LEAST, notes));
+    let site = table_in(with_base, notes)?;
+    let check_keys = has_only(site, &COST_KEYS, Level::Cost, notes);
+    let from: Result<u64, BenchFault> = check_keys.and(read_at(site, LEAST, notes));
     let to: Result<u64, BenchFault> = read_at(site, MOST, notes);
     match (from, to) {
         (Ok(from), Ok(to)) => {
@@ -217,9 +245,9 @@ fn drawn_cost<'a>(placed: Placed<'a>, notes: &mut Notes<'a>) -> Result<CostRange
     }
 }
 
-/// What a job costs: always as much, or by lot.
+/// A job's cost: a fixed number, or a range from which it is drawn.
 fn cost_of<'a>(
-    site: Site<'a>,
+    site: LocatedTable<'a>,
     value: &'a Value,
     notes: &mut Notes<'a>,
 ) -> Result<CostRange, BenchFault>
@@ -227,11 +255,11 @@ fn cost_of<'a>(
     ensures order { IfOk result (λ c. c.from ≤ c.to) }
     ensures range { IfOk result (λ c. c.to ≤ 1000000) }
 {
-    let placed = site.with_value(value, COST);
+    let with_base = site.with_value(value, COST);
     match value.as_table() {
-        Some(_table) => drawn_cost(placed, notes),
+        Some(_table) => drawn_cost(with_base, notes),
         None => {
-            let cost: u64 = u64::from_value(placed, notes)?;
+            let cost: u64 = u64::from_value(with_base, notes)?;
             Ok(CostRange {
                 from: cost as u32,
                 to: cost as u32,
@@ -240,8 +268,8 @@ fn cost_of<'a>(
     }
 }
 
-/// What a job costs, by its table.
-fn cost_in<'a>(site: Site<'a>, notes: &mut Notes<'a>) -> Result<CostRange, BenchFault>
+/// A job's cost that is given as a table.
+fn cost_in<'a>(site: LocatedTable<'a>, notes: &mut Notes<'a>) -> Result<CostRange, BenchFault>
     ensures value { GivesOrKey (λ c. c) result
         (read_at cost key_of.COST (table_view site.entry.table.now)) }
     ensures order { IfOk result (λ c. c.from ≤ c.to) }
@@ -253,8 +281,11 @@ fn cost_in<'a>(site: Site<'a>, notes: &mut Notes<'a>) -> Result<CostRange, Bench
     }
 }
 
-/// What a job is asked when its cost is used up: to end, where its table doesn't say.
-fn requests_in<'a>(site: Site<'a>, notes: &mut Notes<'a>) -> Result<TextList<'a>, BenchFault>
+/// The requests of a job when its cost is used up; its end, if its table doesn't say.
+fn requests_in<'a>(
+    site: LocatedTable<'a>,
+    notes: &mut Notes<'a>,
+) -> Result<TextList<'a>, BenchFault>
     ensures value { GivesOrKey (λ t. t) result
         (read_or (codes "end" ∷ []) texts_of key_of.THEN (table_view site.entry.table.now)) }
 {
@@ -269,13 +300,17 @@ impl<'a> FromTable<'a> for JobTexts<'a> {
 
     ghost fields = { λ k. job };
 
-    fn known(site: Site<'a>, _key: Key, notes: &mut Notes<'a>) -> Result<(), BenchFault> {
+    fn check_keys(
+        site: LocatedTable<'a>,
+        _key: Key,
+        notes: &mut Notes<'a>,
+    ) -> Result<(), BenchFault> {
         has_only(site, &JOB_KEYS, Level::Job, notes)
     }
 
     #[tactic(auto, unfolding(crate::specs::Keys::job))]
     fn from_table(
-        site: Site<'a>,
+        site: LocatedTable<'a>,
         _key: Key,
         notes: &mut Notes<'a>,
     ) -> Result<JobTexts<'a>, BenchFault> {
@@ -303,13 +338,17 @@ impl<'a> FromTable<'a> for EventTexts<'a> {
 
     ghost fields = { λ k. event };
 
-    fn known(site: Site<'a>, _key: Key, notes: &mut Notes<'a>) -> Result<(), BenchFault> {
+    fn check_keys(
+        site: LocatedTable<'a>,
+        _key: Key,
+        notes: &mut Notes<'a>,
+    ) -> Result<(), BenchFault> {
         has_only(site, &EVENT_KEYS, Level::Event, notes)
     }
 
     #[tactic(auto, unfolding(crate::specs::Keys::event))]
     fn from_table(
-        site: Site<'a>,
+        site: LocatedTable<'a>,
         _key: Key,
         notes: &mut Notes<'a>,
     ) -> Result<EventTexts<'a>, BenchFault> {
@@ -363,29 +402,29 @@ pub(crate) fn always(alloc: Global, percent: u64) -> Result<Vec<Stolen>, AllocEr
 
 /// The rows of stolen time: a percent alone, or an array of tables.
 fn stolen_rows<'a>(
-    site: Site<'a>,
+    site: LocatedTable<'a>,
     value: &'a Value,
     notes: &mut Notes<'a>,
 ) -> Result<Vec<Stolen>, BenchFault>
     ensures value { GivesOrKey (λ v. v.items) result (stolen_rows key_of.STEAL (view value.now)) }
 {
-    let placed = site.with_value(value, STEAL);
+    let with_base = site.with_value(value, STEAL);
     match value.as_integer() {
         Some(_percent) => {
-            let percent: u64 = u64::from_value(placed, notes)?;
+            let percent: u64 = u64::from_value(with_base, notes)?;
             let rows = always(site.alloc, percent)?;
             Ok(rows)
         }
         None => {
-            let rows: Vec<StolenRow> = items_of(placed, notes)?;
+            let rows: Vec<StolenRow> = items_of(with_base, notes)?;
             let stolen = rows_of(site.alloc, rows.as_slice())?;
             Ok(stolen)
         }
     }
 }
 
-/// The rows of stolen time of a document, none where it has none.
-fn stolen_in<'a>(site: Site<'a>, notes: &mut Notes<'a>) -> Result<Vec<Stolen>, BenchFault>
+/// The rows of stolen time of a document, none if it has none.
+fn stolen_in<'a>(site: LocatedTable<'a>, notes: &mut Notes<'a>) -> Result<Vec<Stolen>, BenchFault>
     ensures value { GivesOrKey (λ v. v.items) result
         (read_or [] stolen_rows key_of.STEAL (table_view site.entry.table.now)) }
 {
@@ -395,8 +434,8 @@ fn stolen_in<'a>(site: Site<'a>, notes: &mut Notes<'a>) -> Result<Vec<Stolen>, B
     }
 }
 
-/// Whether the rows of stolen time are apart, no two jobs have one address, lots can be drawn, and
-/// events count from events above them or from alarms.
+/// Whether the timing is coherent: rows of stolen time don't overlap, no two jobs have one address,
+/// costs can be drawn, and events count from events above them or from alarms.
 fn is_coherent(texts: &TimingTexts<'_>, notes: &mut Notes<'_>) -> bool
     ensures { result ≡ is_coherent texts.now }
 {
@@ -407,7 +446,7 @@ fn is_coherent(texts: &TimingTexts<'_>, notes: &mut Notes<'_>) -> bool
     are_apart && are_distinct && can_draw && count_from_above
 }
 
-/// What was read, if it is coherent. A fault `Key` where it isn't.
+/// The value, if it is coherent; otherwise a fault `Key`.
 fn if_coherent<T: Drop>(is_coherent: bool, read: T) -> Result<T, BenchFault>
     ensures { GivesOrKey (λ x. x) result (if is_coherent then Some read else None) }
 {
@@ -418,9 +457,12 @@ fn if_coherent<T: Drop>(is_coherent: bool, read: T) -> Result<T, BenchFault>
     }
 }
 
-/// How time passes.
+/// Reads how time passes.
 #[tactic(auto, unfolding(crate::specs::Keys::timing_in))]
-fn timing_in<'a>(site: Site<'a>, notes: &mut Notes<'a>) -> Result<TimingTexts<'a>, BenchFault>
+fn timing_in<'a>(
+    site: LocatedTable<'a>,
+    notes: &mut Notes<'a>,
+) -> Result<TimingTexts<'a>, BenchFault>
     ensures value { GivesOrKey (λ t. t) result (timing_in (table_view site.entry.table.now)) }
 {
     let seconds: Result<u64, BenchFault> = read_at(site, SECONDS, notes);
@@ -446,9 +488,9 @@ fn timing_in<'a>(site: Site<'a>, notes: &mut Notes<'a>) -> Result<TimingTexts<'a
     }
 }
 
-/// The tasks and phases.
+/// Reads the tasks and phases.
 #[tactic(auto, unfolding(crate::specs::Keys::named_in))]
-fn named_in<'a>(site: Site<'a>, notes: &mut Notes<'a>) -> Result<NamedTexts<'a>, BenchFault>
+fn named_in<'a>(site: LocatedTable<'a>, notes: &mut Notes<'a>) -> Result<NamedTexts<'a>, BenchFault>
     ensures value { GivesOrKey (λ t. t) result (named_in (table_view site.entry.table.now)) }
 {
     let rows = items_or_none(site, NAMED_TASKS, notes);
@@ -474,17 +516,17 @@ fn push_both<'a, T: Drop>(
     Ok(())
 }
 
-/// The items, and the names of these.
+/// The items without their names, and the names.
 fn items_and_names<'a, T: Drop>(
     alloc: Global,
-    named: Vec<Named<'a, T>>,
+    read_named: Vec<Named<'a, T>>,
 ) -> Result<(Vec<T>, Vec<Option<Text<'a>>>), AllocError>
-    ensures items { IfOk result (λ r. r.0.items ≡ map (λ n. n.item) named.entry.items) }
-    ensures names { IfOk result (λ r. r.1.items ≡ map (λ n. n.name) named.entry.items) }
+    ensures items { IfOk result (λ r. r.0.items ≡ map (λ n. n.item) read_named.entry.items) }
+    ensures names { IfOk result (λ r. r.1.items ≡ map (λ n. n.name) read_named.entry.items) }
 {
     let mut items = Vec::new(alloc);
     let mut names = Vec::new(alloc);
-    for one in named {
+    for one in read_named {
         push_both(&mut items, &mut names, one)?;
     }
     Ok((items, names))
@@ -494,13 +536,13 @@ fn items_and_names<'a, T: Drop>(
 fn texts_with<'a>(
     alloc: Global,
     settings: Settings<'a>,
-    named: NamedTexts<'a>,
+    read_named: NamedTexts<'a>,
     timing: TimingTexts<'a>,
 ) -> Result<ScenarioTexts<'a>, AllocError>
-    ensures { IfOk result (λ t. t ≡ texts_with settings.entry named.entry timing.entry) }
+    ensures { IfOk result (λ t. t ≡ texts_with settings.entry read_named.entry timing.entry) }
 {
-    let (rows, row_names) = items_and_names(alloc, named.rows)?;
-    let (entries, entry_names) = items_and_names(alloc, named.entries)?;
+    let (rows, row_names) = items_and_names(alloc, read_named.rows)?;
+    let (entries, entry_names) = items_and_names(alloc, read_named.entries)?;
     let lists = Lists {
         script: TextList::none(alloc),
         rows,
@@ -516,10 +558,12 @@ fn texts_with<'a>(
     })
 }
 
-/// What a scenario has once, as a bench has it; without a limit or an allowance there are the
-/// greatest.
+/// The single values of a scenario: as in a bench, but the greatest limit and allowance by default.
 #[tactic(auto, unfolding(crate::specs::Keys::ample_settings_in))]
-fn ample_settings_in<'a>(site: Site<'a>, notes: &mut Notes<'a>) -> Result<Settings<'a>, BenchFault>
+fn ample_settings_in<'a>(
+    site: LocatedTable<'a>,
+    notes: &mut Notes<'a>,
+) -> Result<Settings<'a>, BenchFault>
     ensures value { GivesOrKey (λ s. s) result
         (ample_settings_in (table_view site.entry.table.now)) }
 {
@@ -537,8 +581,8 @@ fn ample_settings_in<'a>(site: Site<'a>, notes: &mut Notes<'a>) -> Result<Settin
     }
 }
 
-/// The numbers and texts of a document. A fault `Key` where a key or the kind, range or length of
-/// its value is wrong, or the timing isn't coherent; it is noted.
+/// The numbers and texts of a document. A fault `Key` if a key or the kind, range or length of its
+/// value is wrong, or the timing isn't coherent; it is noted.
 #[tactic(auto, unfolding(crate::specs::Keys::scenario_in))]
 pub(crate) fn scenario_in<'a>(
     alloc: Global,
@@ -547,14 +591,14 @@ pub(crate) fn scenario_in<'a>(
 ) -> Result<ScenarioTexts<'a>, BenchFault>
     ensures { GivesOrKey (λ t. t) result (scenario_in (table_view table.now)) }
 {
-    let site = Site::of_document(alloc, table);
-    let known = has_only(site, &SCENARIO_KEYS, Level::Scenario, notes);
+    let site = LocatedTable::of_document(alloc, table);
+    let check_keys = has_only(site, &SCENARIO_KEYS, Level::Scenario, notes);
     let settings = ample_settings_in(site, notes);
-    let named = named_in(site, notes);
+    let read_named = named_in(site, notes);
     let timing = timing_in(site, notes);
-    match (known, settings, named, timing) {
-        (Ok(()), Ok(settings), Ok(named), Ok(timing)) => {
-            let texts = texts_with(alloc, settings, named, timing)?;
+    match (check_keys, settings, read_named, timing) {
+        (Ok(()), Ok(settings), Ok(read_named), Ok(timing)) => {
+            let texts = texts_with(alloc, settings, read_named, timing)?;
             Ok(texts)
         }
         (Err(fault), ..) | (_, Err(fault), ..) => Err(fault),

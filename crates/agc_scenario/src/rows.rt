@@ -1,13 +1,13 @@
-//! The table of keys of a scenario: each with what its value is, and whether it must be there.
+//! The table of keys of a scenario: each with the kind of its value, and whether it is required.
 use agc_clock::LAST_TIME;
 use agc_document::rows::{
     ACTION, ALLOWANCE, AT, BANK, GROUP, JOB, KEY, LIMIT, LISTING, PHASE, POWER, RADAR, SETS,
 };
-use agc_document::{ANY, Form, Key, KeyName, Kind, TimeName};
+use agc_document::{ANY, Key, KeyName, Kind, TextForm, TimeName};
 
 pub const SECONDS: Key = Key::Required(KeyName::Time(TimeName::Seconds), Kind::Integer(1, 86_400));
 
-pub const TITLE: Key = Key::Optional(KeyName::Time(TimeName::Title), Kind::Text(Form::Name));
+pub const TITLE: Key = Key::Optional(KeyName::Time(TimeName::Title), Kind::Text(TextForm::Name));
 
 pub const SEED: Key = Key::Optional(
     KeyName::Time(TimeName::Seed),
@@ -42,7 +42,7 @@ pub const SCENARIO_KEYS: [Key; 14] = [
     EVENTS,
 ];
 
-pub const NAME: Key = Key::Optional(KeyName::Time(TimeName::Name), Kind::Text(Form::Name));
+pub const NAME: Key = Key::Optional(KeyName::Time(TimeName::Name), Kind::Text(TextForm::Name));
 
 /// The keys of a task's row.
 pub const NAMED_TASK_KEYS: [Key; 4] = [AT, BANK, ACTION, NAME];
@@ -53,7 +53,7 @@ pub const NAMED_PHASE_KEYS: [Key; 5] = [GROUP, PHASE, JOB, LISTING, NAME];
 /// A centisecond of a day.
 const TIME: Kind = Kind::Integer(0, LAST_TIME as u64);
 
-/// So many centiseconds, at least one.
+/// A number of centiseconds, at least one.
 const LONG: Kind = Kind::Integer(1, LAST_TIME as u64);
 
 pub const FROM: Key = Key::Required(KeyName::Time(TimeName::From), TIME);
@@ -75,32 +75,32 @@ pub const LEAST: Key = Key::Required(KeyName::Time(TimeName::From), Kind::Intege
 
 pub const MOST: Key = Key::Required(KeyName::Time(TimeName::To), Kind::Integer(1, 1_000_000));
 
-/// The keys of a cost that is drawn by lot.
+/// The keys of a cost that is drawn.
 pub const COST_KEYS: [Key; 2] = [LEAST, MOST];
 
 pub const DEADLINE: Key = Key::Optional(KeyName::Time(TimeName::Deadline), LONG);
 
 pub const THEN: Key = Key::Optional(
     KeyName::Time(TimeName::Then),
-    Kind::OneOrMore(Form::Request, 1, 8),
+    Kind::OneOrMore(TextForm::Request, 1, 8),
 );
 
-/// As its last request alone may be.
-pub const LAST: Key = Key::Optional(KeyName::Time(TimeName::Then), Kind::Text(Form::Leaving));
+/// The key `then` as its last request must be: one by which the job leaves.
+pub const LAST: Key = Key::Optional(KeyName::Time(TimeName::Then), Kind::Text(TextForm::Leaving));
 
-/// As those before it may be.
-pub const BEFORE: Key = Key::Optional(KeyName::Time(TimeName::Then), Kind::Text(Form::Step));
+/// The key `then` as all requests before the last must be.
+pub const BEFORE: Key = Key::Optional(KeyName::Time(TimeName::Then), Kind::Text(TextForm::Step));
 
-/// The keys of what a job costs.
+/// The keys of a job.
 pub const JOB_KEYS: [Key; 5] = [AT, COST, DEADLINE, THEN, NAME];
 
 pub const MOMENT: Key = Key::Required(KeyName::At, TIME);
 
-pub const AFTER: Key = Key::Optional(KeyName::Time(TimeName::After), Kind::Text(Form::Name));
+pub const AFTER: Key = Key::Optional(KeyName::Time(TimeName::After), Kind::Text(TextForm::Name));
 
 pub const DO: Key = Key::Required(
     KeyName::Time(TimeName::Do),
-    Kind::OneOrMore(Form::Request, 1, 16),
+    Kind::OneOrMore(TextForm::Request, 1, 16),
 );
 
 /// The keys of an event.

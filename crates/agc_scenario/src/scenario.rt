@@ -13,14 +13,14 @@ use crate::keys::scenario_in;
 use crate::rows::SECONDS;
 use crate::texts::ScenarioTexts;
 use crate::timing::{Name, Timing};
-use crate::values::{all_copied, can_all_be_shown, timing_of};
+use crate::values::{can_all_be_shown, copy_names, timing_of};
 use agc_document::{Bench, BenchFault, Notes, Text, bench_from, table_of, value_of};
 use std::alloc::Global;
 use std::marker::Model;
 use toml::Table;
 
-/// A scenario: a bench that asks for nothing by itself, with names for its tasks and phases, and
-/// how time passes. Contracts see its values. Source: profile.
+/// A scenario: a bench without requests, names for its tasks and phases, and how time passes.
+/// Contracts see its values.
 #[derive(Drop)]
 pub struct Scenario {
     pub(crate) bench: Bench,
@@ -43,28 +43,28 @@ impl Model for Scenario {
 }
 
 impl Scenario {
-    /// Its bench, whose script is empty. Source: profile.
+    /// The bench of the scenario. Its script is empty.
     pub fn bench(&self) -> &Bench
         ensures { result.now ≡ self.now.bench }
     {
         &self.bench
     }
 
-    /// How time passes. Source: profile.
+    /// How time passes.
     pub fn timing(&self) -> &Timing
         ensures { result.now ≡ self.now.timing }
     {
         &self.timing
     }
 
-    /// The name of each task's row, in order. Source: profile.
+    /// The name of each task's row, in order.
     pub fn row_names(&self) -> &[Name]
         ensures { result.now ≡ self.now.row_names }
     {
         self.row_names.as_slice()
     }
 
-    /// The name of each phase entry, in order. Source: profile.
+    /// The name of each phase entry, in order.
     pub fn entry_names(&self) -> &[Name]
         ensures { result.now ≡ self.now.entry_names }
     {
@@ -72,7 +72,7 @@ impl Scenario {
     }
 }
 
-/// Copies names. A fault `Line` where one can't be shown.
+/// Copies names. A fault `Line` if one can't be shown.
 fn names_of(alloc: Global, names: &[Option<Text<'_>>]) -> Result<Vec<Name>, BenchFault>
     ensures found { IfOk result (λ v. (v.items ≡ names.now)
         × (list_all can_be_shown names.now ≡ true)) }
@@ -81,13 +81,13 @@ fn names_of(alloc: Global, names: &[Option<Text<'_>>]) -> Result<Vec<Name>, Benc
     if !can_all_be_shown(names) {
         return Err(BenchFault::Line);
     }
-    let copied = all_copied(alloc, names)?;
+    let copied = copy_names(alloc, names)?;
     Ok(copied)
 }
 
-/// The scenario that numbers and texts spell; each text was looked at when it was read.
+/// The scenario that numbers and texts spell; each text was checked when it was read.
 #[tactic(auto, using(crate::proofs::Refusals::refused_bench))]
-fn spelled(
+fn scenario_from_texts(
     alloc: Global,
     texts: ScenarioTexts<'_>,
     notes: &mut Notes<'_>,
@@ -112,8 +112,7 @@ fn spelled(
     }
 }
 
-/// The scenario that a document's table is. What is wrong is noted, if that is wanted. Source:
-/// profile.
+/// The scenario that a document's table is. Faults are noted, if that is wanted.
 ///
 /// # Errors
 ///
@@ -129,11 +128,10 @@ pub fn scenario_of<'a>(
     ensures refused { IfErr result (RefusesScenario (Some (table_view table.now))) }
 {
     let texts = scenario_in(alloc, table, notes)?;
-    spelled(alloc, texts, notes)
+    scenario_from_texts(alloc, texts, notes)
 }
 
-/// The scenario that a TOML document is: its values, and for each key that is missing the value
-/// that stands for it. Source: profile.
+/// The scenario that a TOML document is: its values, and the default of each key that is missing.
 ///
 /// # Errors
 ///
@@ -155,7 +153,7 @@ pub fn read_scenario(alloc: Global, text: &str) -> Result<Scenario, BenchFault>
     scenario_of(alloc, &table, &mut Notes::new(false))
 }
 
-/// Whether a document has the key `seconds`, and so should be a scenario. Source: profile.
+/// Whether a document has the key `seconds`, and so should be a scenario.
 pub fn is_scenario(table: &Table) -> bool
     ensures { result ≡ has_seconds (table_view table.now) }
 {

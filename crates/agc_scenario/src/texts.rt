@@ -48,8 +48,7 @@ impl Model for StolenRow {
     ghost view = { λ s. s.row };
 }
 
-/// A job: its numbers, and the texts of its address, of each request for which it asks and of its
-/// name.
+/// A job: its numbers, and the texts of its address, of each request and of its name.
 #[derive(Drop)]
 pub(crate) struct JobTexts<'a> {
     pub(crate) at: Text<'a>,
@@ -135,7 +134,7 @@ impl<'a> Model for TimingTexts<'a> {
     ghost invariant = { λ t. t.seconds ≤ 86400 };
 }
 
-/// All of a scenario.
+/// All numbers and texts of a scenario.
 #[derive(Drop)]
 pub(crate) struct ScenarioTexts<'a> {
     pub(crate) bench: Texts<'a>,

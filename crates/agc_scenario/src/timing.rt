@@ -2,7 +2,7 @@
 ghost use Rattle.std.specs.Prelude.{◌≡◌, ◌≤◌, ◌*◌, [], map, option_map, string_bytes};
 ghost use Rattle.std.specs.List.{range_with_len};
 ghost use Rattle.agc_scenario.specs.Texts.{alarm_called, is_named};
-ghost use Rattle.agc_scenario.specs.Scenarios.{base_of, comes_by, cost_of, counted, counted_by};
+ghost use Rattle.agc_scenario.specs.Scenarios.{base_of, comes_by, cost_of, with_bases, counted_by};
 ghost use Rattle.agc_scenario.specs.Scenarios.{first_called, first_of, last_time_of, later};
 ghost use Rattle.agc_scenario.specs.Scenarios.{leaves_by, seed_of, step_in, then_of};
 
@@ -10,7 +10,7 @@ use agc_clock::{Alarms, Cost, LAST_TIME, Step, Stolen, Then, Times, step_of};
 use agc_plan::{Address, Alarm, Request};
 use std::marker::Model;
 
-/// A name, if it is there. Source: profile.
+/// A name, if it is there.
 #[derive(Drop)]
 pub struct Name {
     text: Option<String>,
@@ -33,7 +33,7 @@ impl Name {
         Name { text }
     }
 
-    /// The name, if it is there. Source: profile.
+    /// The name, if it is there.
     pub fn as_str(&self) -> Option<&str>
         ensures { option_map (λ s. s.now) result ≡ self.now }
     {
@@ -44,7 +44,7 @@ impl Name {
     }
 }
 
-/// Whether a name is there, and is this text.
+/// Whether there is a name, and it is this text.
 pub(crate) fn is_named(name: &Name, called: &str) -> bool
     ensures { result ≡ is_named called.now name.now }
 {
@@ -66,16 +66,16 @@ pub(crate) fn alarm_called(called: &str) -> Option<Alarm>
     }
 }
 
-/// What a job costs, in centiseconds of computing time: at least and at most this much, by lot; the
-/// same each time, where both are the same. Source: profile.
+/// A job's cost in centiseconds of computing: drawn between a least and a most, or fixed if they
+/// are equal.
 #[derive(Clone, Copy, PartialEq, Eq)]
 pub struct CostRange {
     pub from: u32,
     pub to: u32,
 }
 
-/// What a job at an address costs, in centiseconds of computing time, what it is asked when that is
-/// used up, how long it may take, and its name. Source: profile.
+/// A job at an address: its cost in centiseconds of computing, its requests when that is used up,
+/// its deadline, and its name.
 #[derive(Drop)]
 pub struct TimedJob {
     pub(crate) at: Address,
@@ -102,7 +102,7 @@ impl Model for TimedJob {
     ghost invariant = { λ j. (j.cost.from ≤ j.cost.to) × (j.cost.to ≤ 1000000) };
 }
 
-/// How a job leaves by this request, if it does.
+/// The way in which this request makes a job leave, if it does.
 pub(crate) fn then_of(request: &Request) -> Option<Then>
     ensures { result ≡ then_of request.now }
 {
@@ -113,7 +113,7 @@ pub(crate) fn then_of(request: &Request) -> Option<Then>
     }
 }
 
-/// How a job leaves that asks for these requests.
+/// The way in which a job with these requests leaves.
 fn leaves_by(requests: &[Request]) -> Then
     ensures { result ≡ leaves_by requests.now }
 {
@@ -149,14 +149,14 @@ fn steps_of(requests: &[Request]) -> [Option<Step>; 7]
 }
 
 impl TimedJob {
-    /// Its address. Source: profile.
+    /// Its address.
     pub fn at(&self) -> Address
         ensures { result ≡ self.now.at }
     {
         self.at
     }
 
-    /// What it costs, in centiseconds of computing, at most 1,000,000. Source: profile.
+    /// Its cost in centiseconds of computing, at most 1,000,000.
     pub fn cost(&self) -> CostRange
         ensures value { result ≡ self.now.cost }
         ensures order { result.from ≤ result.to }
@@ -165,29 +165,28 @@ impl TimedJob {
         self.cost
     }
 
-    /// How many centiseconds it may take, from where it is established to its end, if that is told.
-    /// Source: profile.
+    /// The deadline, in centiseconds from where the job is established to its end, if it has one.
     pub fn deadline(&self) -> Option<u32>
         ensures { result ≡ self.now.deadline }
     {
         self.deadline
     }
 
-    /// What it is asked when its cost is used up, in order. Source: profile.
+    /// Its requests when its cost is used up, in order.
     pub fn requests(&self) -> &[Request]
         ensures { result.now ≡ self.now.requests }
     {
         self.requests.as_slice()
     }
 
-    /// Its name, if it has one. Source: profile.
+    /// Its name, if it has one.
     pub fn name(&self) -> Option<&str>
         ensures { option_map (λ s. s.now) result ≡ self.now.name }
     {
         self.name.as_str()
     }
 
-    /// What it costs, for a clock.
+    /// Its cost in hundredths of a centisecond, for a clock.
     pub(crate) fn hundredths(&self) -> Cost
         ensures { result ≡ cost_of self.now }
     {
@@ -201,20 +200,20 @@ impl TimedJob {
     }
 }
 
-/// From what an event counts: so many centiseconds after the first alarm of a code, or after the
-/// start.
+/// The instant from which an event counts: this many centiseconds after the first alarm of a code,
+/// or after the start.
 #[derive(Clone, Copy)]
-pub(crate) struct Base {
+pub(crate) struct EventBase {
     pub(crate) alarm: Option<Alarm>,
     pub(crate) from: u32,
 }
 
-/// An event: when it comes, what it asks for, and its name. Source: profile.
+/// An event: when it comes, what it asks for, and its name.
 #[derive(Drop)]
 pub struct TimedEvent {
     pub(crate) at: u32,
     pub(crate) after: Name,
-    pub(crate) base: Base,
+    pub(crate) base: EventBase,
     pub(crate) requests: Vec<Request>,
     pub(crate) every: Option<u32>,
     pub(crate) until: Option<u32>,
@@ -240,7 +239,7 @@ impl Model for TimedEvent {
     ghost invariant = { λ e. IfSome e.every (λ n. 1 ≤ n) };
 }
 
-/// The centisecond that is so long after another, or the first after a day, where it is later.
+/// The centisecond this long after another, at most the first after a day.
 fn later(from: u32, long: u32) -> u32
     ensures { result ≡ later from long }
 {
@@ -248,15 +247,15 @@ fn later(from: u32, long: u32) -> u32
 }
 
 impl TimedEvent {
-    /// The alarm from whose first it counts, if it counts from one. Source: profile.
+    /// The alarm from whose first an event counts, if it counts from one.
     pub fn alarm(&self) -> Option<Alarm>
         ensures { result ≡ self.now.base.alarm }
     {
         self.base.alarm
     }
 
-    /// Its first centisecond, or the first after a day, where it is later; if it counts from an
-    /// alarm, how long after that it comes, at least 1. Source: profile.
+    /// Its first centisecond, at most the first after a day; if it counts from an alarm, how long
+    /// after that it comes, at least 1.
     pub fn first(&self) -> u32
         ensures { result ≡ first_of self.now }
     {
@@ -267,8 +266,8 @@ impl TimedEvent {
         }
     }
 
-    /// The last centisecond at which it may come again, if one is told, or the first after a day,
-    /// where it is later; if it counts from an alarm, how long after that. Source: profile.
+    /// The last centisecond at which it may come again, if it has one, at most the first after a
+    /// day; if it counts from an alarm, how long after that.
     pub fn last(&self) -> Option<u32>
         ensures { result ≡ last_time_of self.now }
     {
@@ -278,28 +277,28 @@ impl TimedEvent {
         }
     }
 
-    /// What it asks for, in order. Source: profile.
+    /// Its requests, in order.
     pub fn requests(&self) -> &[Request]
         ensures { result.now ≡ self.now.requests }
     {
         self.requests.as_slice()
     }
 
-    /// After how many centiseconds it comes again, if it does. Source: profile.
+    /// After how many centiseconds it comes again, if it does.
     pub fn every(&self) -> Option<u32>
         ensures { result ≡ self.now.every }
     {
         self.every
     }
 
-    /// Its name, if it has one. Source: profile.
+    /// Its name, if it has one.
     pub fn name(&self) -> Option<&str>
         ensures { option_map (λ s. s.now) result ≡ self.now.name }
     {
         self.name.as_str()
     }
 
-    /// When it comes in a scenario that lasts so many centiseconds, or how long after an alarm.
+    /// When it comes in a scenario that lasts this many centiseconds, or how long after an alarm.
     fn distances(&self, lasts: u32) -> Times
         ensures { result
             ≡ comes_by (first_of self.now) self.now.every (last_time_of self.now) lasts }
@@ -331,31 +330,31 @@ impl TimedEvent {
     }
 }
 
-/// What counts from the first of these events that has the name, or else from the alarm that it
-/// calls.
-fn first_called(events: &[TimedEvent], called: &str) -> Base
+/// The instant from which an event counts: the first of these events that has the name, or else the
+/// alarm that has it.
+fn first_called(events: &[TimedEvent], called: &str) -> EventBase
     ensures { result ≡ first_called called.now events.now }
 {
     for event in events {
         if is_named(&event.name, called) {
-            return Base {
+            return EventBase {
                 alarm: event.base.alarm,
                 from: event.first(),
             };
         }
     }
-    Base {
+    EventBase {
         alarm: alarm_called(called),
         from: 0,
     }
 }
 
-/// From what an event counts that names this, if any, below these.
-fn base_of(above: &[TimedEvent], after: &Name) -> Base
+/// The instant from which an event counts that names one above it or an alarm, or none.
+fn base_of(above: &[TimedEvent], after: &Name) -> EventBase
     ensures { result ≡ base_of above.now after.now }
 {
     match after.as_str() {
-        None => Base {
+        None => EventBase {
             alarm: None,
             from: 0,
         },
@@ -363,17 +362,17 @@ fn base_of(above: &[TimedEvent], after: &Name) -> Base
     }
 }
 
-/// An event counts from this.
-fn count_from(event: &mut TimedEvent, base: Base)
+/// Sets the instant from which an event counts.
+fn count_from(event: &mut TimedEvent, base: EventBase)
     ensures { event.new ≡ record event.old { base = base } }
 {
     event.base = base;
 }
 
-/// Sets for each event from what it counts.
+/// Sets the instant from which each event counts.
 #[tactic(auto, using(crate::proofs::Counted::count_step))]
 pub(crate) fn count(events: &mut Vec<TimedEvent>)
-    ensures { events.new.items ≡ counted [] events.old.items }
+    ensures { events.new.items ≡ with_bases [] events.old.items }
 {
     for k in 0..events.len() {
         let base = base_of(&events[..k], &events[k].after);
@@ -381,7 +380,7 @@ pub(crate) fn count(events: &mut Vec<TimedEvent>)
     }
 }
 
-/// How time passes in a scenario. Contracts see its values. Source: profile.
+/// How time passes in a scenario. Contracts see its values.
 #[derive(Drop)]
 pub struct Timing {
     pub(crate) seconds: u32,
@@ -411,7 +410,7 @@ impl Model for Timing {
 }
 
 impl Timing {
-    /// How many seconds it lasts, at most 86400, a day. Source: profile.
+    /// How many seconds it lasts, at most 86400, a day.
     pub fn seconds(&self) -> u32
         ensures value { result ≡ self.now.seconds }
         ensures range { result ≤ 86400 }
@@ -419,42 +418,42 @@ impl Timing {
         self.seconds
     }
 
-    /// How many centiseconds it lasts. Source: profile.
+    /// How many centiseconds it lasts.
     pub fn lasts(&self) -> u32
         ensures { result ≡ self.now.seconds * 100 }
     {
         self.seconds * 100
     }
 
-    /// The rows of stolen time. Source: profile.
+    /// The rows of stolen time.
     pub fn stolen(&self) -> &[Stolen]
         ensures { result.now ≡ self.now.stolen }
     {
         self.stolen.as_slice()
     }
 
-    /// Its title, if it has one. Source: profile.
+    /// Its title, if it has one.
     pub fn title(&self) -> Option<&str>
         ensures { option_map (λ s. s.now) result ≡ self.now.title }
     {
         self.title.as_str()
     }
 
-    /// The seed of its lots; 0 if it has none. Source: profile.
+    /// The seed of its lots; 0 if it has none.
     pub fn seed(&self) -> u32
         ensures { result ≡ seed_of self.now }
     {
         self.seed.unwrap_or(0)
     }
 
-    /// What jobs cost, by their addresses. Source: profile.
+    /// The jobs that have a cost, by their addresses.
     pub fn jobs(&self) -> &[TimedJob]
         ensures { result.now ≡ self.now.jobs }
     {
         self.jobs.as_slice()
     }
 
-    /// The events, in the order of the document. Source: profile.
+    /// The events, in the order of the document.
     pub fn all_events(&self) -> &[TimedEvent]
         ensures { result.now ≡ self.now.events }
     {

@@ -1,20 +1,20 @@
-//! What the texts of a scenario spell.
+//! The values that the texts of a scenario spell.
 ghost use Rattle.std.specs.Prelude.{◌≡◌, ◌≢◌, List, [], map, true, IfOk, IfErr};
 ghost use Rattle.std.specs.List.{AllByRecursion, list_all};
 ghost use Rattle.agc_plan.specs.Ranges.{IsRequest};
 ghost use Rattle.agc_text.specs.Lines.{line_of};
 ghost use Rattle.agc_document.specs.Gives.{RefusedLine};
 ghost use Rattle.agc_plan.specs.declared.request.Request.{Request as Asks};
-ghost use Rattle.agc_scenario.specs.Scenarios.{TimedEvent as Event, Timed, are_asked};
+ghost use Rattle.agc_scenario.specs.Scenarios.{TimedEvent as Event, Timed, are_job_requests};
 ghost use Rattle.agc_scenario.specs.Scenarios.{can_be_shown};
-ghost use Rattle.agc_scenario.specs.Scenarios.{counted, is_step, leaves_at_last};
+ghost use Rattle.agc_scenario.specs.Scenarios.{with_bases, is_step, leaves_at_last};
 ghost use Rattle.agc_scenario.specs.Scenarios.{event_texts, job_texts};
 ghost use Rattle.agc_scenario.specs.Scenarios.{timing_texts, IsTimed, IsTimedEvent, IsTimedJob};
 
 use crate::texts::{EventTexts, JobTexts, TimingTexts};
-use crate::timing::{Base, Name, TimedEvent, TimedJob, Timing, count, then_of};
+use crate::timing::{EventBase, Name, TimedEvent, TimedJob, Timing, count, then_of};
 use agc_clock::step_of;
-use agc_document::{BenchFault, Spelled, Text, all_spelled, is_name, or_line};
+use agc_document::{BenchFault, FromText, Text, all_spelled, is_name, or_line};
 use agc_plan::Request;
 use agc_text::parse_address;
 use std::alloc::{AllocError, Global};
@@ -26,14 +26,13 @@ fn is_step(request: &Request) -> bool
     step_of(request).is_some()
 }
 
-/// Whether all of these are.
 fn are_steps(requests: &[Request]) -> bool
     ensures { result ≡ list_all is_step requests.now }
 {
     requests.iter().all(|request| is_step(request))
 }
 
-/// Whether a job leaves by the last of these.
+/// Whether the last request is one by which a job leaves.
 fn leaves_at_last(requests: &[Request]) -> bool
     ensures { result ≡ leaves_at_last requests.now }
 {
@@ -43,24 +42,25 @@ fn leaves_at_last(requests: &[Request]) -> bool
     }
 }
 
-/// Whether a job can ask for these requests: for steps, and at last to end or to sleep.
-fn are_asked(requests: &[Request]) -> bool
-    ensures { result ≡ are_asked requests.now }
+/// Whether a job can make these requests: steps, and at last one by which it ends or sleeps.
+fn are_job_requests(requests: &[Request]) -> bool
+    ensures { result ≡ are_job_requests requests.now }
 {
     let before = requests.len().saturating_sub(1);
     are_steps(&requests[..before]) && leaves_at_last(requests)
 }
 
-/// What a job asks for, as texts spell it.
+/// The requests of a job that its texts spell.
 #[tactic(auto, using(crate::proofs::Asked::never_asked))]
-fn asked_by(alloc: Global, texts: &[Text<'_>]) -> Result<Vec<Request>, BenchFault>
+fn parse_requests(alloc: Global, texts: &[Text<'_>]) -> Result<Vec<Request>, BenchFault>
     ensures found { IfOk result (λ v. AllByRecursion IsRequest v.items
-        × (are_asked v.items ≡ true) × (texts.now ≡ map line_of v.items)) }
+        × (are_job_requests v.items ≡ true) × (texts.now ≡ map line_of v.items)) }
     ensures refused { IfErr result (RefusedLine ((asks : List Asks)
-        → AllByRecursion IsRequest asks → are_asked asks ≡ true → texts.now ≢ map line_of asks)) }
+        → AllByRecursion IsRequest asks → are_job_requests asks ≡ true
+        → texts.now ≢ map line_of asks)) }
 {
     let requests: Vec<Request> = all_spelled(alloc, texts)?;
-    if !are_asked(requests.as_slice()) {
+    if !are_job_requests(requests.as_slice()) {
         return Err(BenchFault::Line);
     }
     Ok(requests)
@@ -76,7 +76,7 @@ fn can_be_shown(name: &Option<Text<'_>>) -> bool
     }
 }
 
-/// Whether each of these names can be shown.
+/// Whether each name that is there can be shown.
 pub(crate) fn can_all_be_shown(names: &[Option<Text<'_>>]) -> bool
     ensures { result ≡ list_all can_be_shown names.now }
 {
@@ -84,7 +84,7 @@ pub(crate) fn can_all_be_shown(names: &[Option<Text<'_>>]) -> bool
 }
 
 /// A name in memory of its own.
-fn copied(alloc: Global, name: &Option<Text<'_>>) -> Result<Name, AllocError>
+fn copy_name(alloc: Global, name: &Option<Text<'_>>) -> Result<Name, AllocError>
     ensures { IfOk result (λ n. n ≡ name.now) }
 {
     match name {
@@ -94,18 +94,18 @@ fn copied(alloc: Global, name: &Option<Text<'_>>) -> Result<Name, AllocError>
 }
 
 /// Names in memory of their own.
-pub(crate) fn all_copied(alloc: Global, names: &[Option<Text<'_>>]) -> Result<Vec<Name>, AllocError>
+pub(crate) fn copy_names(alloc: Global, names: &[Option<Text<'_>>]) -> Result<Vec<Name>, AllocError>
     ensures { IfOk result (λ v. v.items ≡ names.now) }
 {
     let mut all: Vec<Name> = Vec::new(alloc);
     for name in names {
-        let one = copied(alloc, name)?;
+        let one = copy_name(alloc, name)?;
         all.push(one)?;
     }
     Ok(all)
 }
 
-/// The name that a text is. A fault `Line` where it can't be shown.
+/// The name that a text is, if it is there. A fault `Line` if it can't be shown.
 fn name_of(alloc: Global, name: &Option<Text<'_>>) -> Result<Name, BenchFault>
     ensures found { IfOk result (λ n. (n ≡ name.now) × (can_be_shown name.now ≡ true)) }
     ensures refused { IfErr result (RefusedLine (can_be_shown name.now ≢ true)) }
@@ -113,18 +113,18 @@ fn name_of(alloc: Global, name: &Option<Text<'_>>) -> Result<Name, BenchFault>
     if !can_be_shown(name) {
         return Err(BenchFault::Line);
     }
-    let copied = copied(alloc, name)?;
-    Ok(copied)
+    let copy_name = copy_name(alloc, name)?;
+    Ok(copy_name)
 }
 
-impl<'a> Spelled<JobTexts<'a>> for TimedJob {
+impl<'a> FromText<JobTexts<'a>> for TimedJob {
     ghost spelling = { job_texts };
 
     ghost IsLawful = { IsTimedJob };
 
     fn spelled_by(alloc: Global, texts: &JobTexts<'a>) -> Result<TimedJob, BenchFault> {
         let at = or_line(parse_address(texts.at.as_str()));
-        let requests = asked_by(alloc, texts.requests.as_slice());
+        let requests = parse_requests(alloc, texts.requests.as_slice());
         let name = name_of(alloc, &texts.name);
         match (at, requests, name) {
             (Ok(at), Ok(requests), Ok(name)) => Ok(TimedJob {
@@ -139,7 +139,7 @@ impl<'a> Spelled<JobTexts<'a>> for TimedJob {
     }
 }
 
-impl<'a> Spelled<EventTexts<'a>> for TimedEvent {
+impl<'a> FromText<EventTexts<'a>> for TimedEvent {
     ghost spelling = { event_texts };
 
     ghost IsLawful = { IsTimedEvent };
@@ -155,7 +155,7 @@ impl<'a> Spelled<EventTexts<'a>> for TimedEvent {
             (Ok(requests), Ok(after), Ok(name)) => Ok(TimedEvent {
                 at: texts.at,
                 after,
-                base: Base {
+                base: EventBase {
                     alarm: None,
                     from: 0,
                 },
@@ -173,7 +173,7 @@ impl<'a> Spelled<EventTexts<'a>> for TimedEvent {
 #[tactic(auto, using(crate::proofs::Counted::counted_events))]
 fn events_of(alloc: Global, texts: &[EventTexts<'_>]) -> Result<Vec<TimedEvent>, BenchFault>
     ensures found { IfOk result (λ v. AllByRecursion IsTimedEvent v.items
-        × (texts.now ≡ map event_texts v.items) × (counted [] v.items ≡ v.items)) }
+        × (texts.now ≡ map event_texts v.items) × (with_bases [] v.items ≡ v.items)) }
     ensures refused { IfErr result (RefusedLine
         ((es : List Event) → AllByRecursion IsTimedEvent es → texts.now ≢ map event_texts es)) }
 {

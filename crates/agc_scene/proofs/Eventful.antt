@@ -12,14 +12,14 @@ use Rattle.agc_scene.specs.declared.event.Event.{Event}
 use Rattle.agc_scene.specs.declared.listings.Listing.{Listing}
 use Rattle.agc_scene.specs.declared.origins.Origin.{Origin}
 use Rattle.agc_scene.specs.declared.origins.Since.{Since}
-use Rattle.agc_scene.specs.Events.{Watching, counted, event_of, one_more, raised_at, scene_at, scene_now, since}
-use Rattle.agc_scene.specs.Origins.{left_by, listed, origins_after}
+use Rattle.agc_scene.specs.Events.{Watching, one_more_if, event_of, one_more, raised_at, scene_at, scene_now, since}
+use Rattle.agc_scene.specs.Origins.{left_by, listings_after, origins_after}
 use Rattle.agc_scene.specs.Scenes.{Scene}
 
 pub event_is : (w : Watching) (asked : Request) (number time total raised fires : ℕ) (ticked begins : Bool) (answer : Result Reply Refusal) (fired : List Task) (scene : Scene) (era : Option Scene) (machine : Machined) (now : Since) (jobs : List Origin) (left tasks : List Listing)
-    → tasks ≡ listed now left scene.waits → left ≡ left_by ticked fires w.tasks → fires ≡ length fired → jobs ≡ origins_after now w.jobs scene.seats → now ≡ since number false
+    → tasks ≡ listings_after now left scene.waits → left ≡ left_by ticked fires w.tasks → fires ≡ length fired → jobs ≡ origins_after now w.jobs scene.seats → now ≡ since number false
     → era ≡ (if begins then Some (scene_now machine) else None) → machine ≡ after w.machine asked → begins ≡ begins_with answer
-    → time ≡ counted ticked w.time → total ≡ counted ticked w.total → ticked ≡ (is_tick asked && is_ok answer)
+    → time ≡ one_more_if ticked w.time → total ≡ one_more_if ticked w.total → ticked ≡ (is_tick asked && is_ok answer)
     → answer ≡ answer_of w.machine asked → fired ≡ fired_of w.machine asked → raised ≡ raised_at w.machine asked → scene ≡ scene_at w.machine asked → number ≡ one_more w.asked
     → record { number = number; time = time; total = total; request = asked; answer = answer; fired = fired; raised = raised; scene = scene; era = era; jobs = jobs; tasks = tasks } ≡ event_of w asked
 unfolding event_of

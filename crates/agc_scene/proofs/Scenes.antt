@@ -69,11 +69,11 @@ waits_are waits agenda stands =
 
 -- of jobs, a placement, tasks and base
 abbrev scene_with : Jobs → List ℕ → List Waiting → Base → Scene
-scene_with jobs places waits base = record { running = jobs.running; named = named_of jobs; seats = map (seat_of jobs) places; waits = waits; base = base }
+scene_with jobs places waits base = record { running = jobs.running; next_job = named_of jobs; seats = map (seat_of jobs) places; waits = waits; base = base }
 
 pub scene_is : (words : List ℕ) (plain : Plain) (places : List ℕ) → IsLawfulWords words → WordsStandFor words plain → entries_in words ≡ places → scene_in words ≡ scene_of plain places
 scene_is words plain places lawful stands placed =
-    ap (λ (s : List (Option Seat)). record { running = (jobs_in words).running; named = named_of (jobs_in words); seats = s; waits = waits_of words; base = base_of words }) (seats_of_words words lawful)
+    ap (λ (s : List (Option Seat)). record { running = (jobs_in words).running; next_job = named_of (jobs_in words); seats = s; waits = waits_of words; base = base_of words }) (seats_of_words words lawful)
     ∙ ap (λ (j : Jobs). scene_with j (entries_in words) (waits_of words) (base_of words)) stands.jobs
     ∙ ap (λ (p : List ℕ). scene_with plain.work.jobs p (waits_of words) (base_of words)) placed
     ∙ ap (λ (w : List Waiting). scene_with plain.work.jobs places w (base_of words)) (waits_are (waits_of words) plain.work.agenda stands.tasks)

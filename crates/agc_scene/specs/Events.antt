@@ -12,7 +12,7 @@ use Rattle.agc_scene.specs.declared.event.Event.{Event}
 use Rattle.agc_scene.specs.declared.listings.Listing.{Listing}
 use Rattle.agc_scene.specs.declared.origins.Origin.{Origin}
 use Rattle.agc_scene.specs.declared.origins.Since.{Since}
-use Rattle.agc_scene.specs.Origins.{left_by, listed, origins_after}
+use Rattle.agc_scene.specs.Origins.{left_by, listings_after, origins_after}
 use Rattle.agc_scene.specs.Scenes.{Scene, scene_of}
 
 -- the scene of a machine
@@ -30,7 +30,7 @@ scene_at m asked = if leaves m asked then scene_now m
     else scene_of (acted m.plan asked (plain_of m)).plain
     (places_acted m.plan asked (plain_of m) (places_of m))
 
--- which action of the task that fired last raised the alarm, from 1; 0 where none did
+-- which action of the task that fired last raised the alarm, from 1; 0 if none did
 abbrev pub raised_at : Machined → Request → ℕ
 raised_at m asked =
     option_map_or (λ refusal. 0) (refusal_of m asked) (raised_in m.plan asked (plain_of m))
@@ -40,10 +40,10 @@ abbrev pub one_more : ℕ → ℕ
 one_more n = if n == 18446744073709551615 then n else n + 1
 
 -- one more, where this is so
-abbrev pub counted : Bool → ℕ → ℕ
-counted is n = if is then one_more n else n
+abbrev pub one_more_if : Bool → ℕ → ℕ
+one_more_if is n = if is then one_more n else n
 
--- it came with this request, or with its restart
+-- since this request, or since its restart
 abbrev pub since : ℕ → (restart : Bool) → Since
 since request restart = record { request = request; restart = restart }
 
@@ -52,7 +52,7 @@ abbrev pub jobs_begun : (request : ℕ) → Scene → List Origin
 jobs_begun request scene = origins_after (since request true) [] scene.seats
 
 abbrev pub tasks_begun : (request : ℕ) → Scene → List Listing
-tasks_begun request scene = listed (since request true) [] scene.waits
+tasks_begun request scene = listings_after (since request true) [] scene.waits
 
 -- a machine that is watched: how many requests were asked, how many ticks were served since the era
 -- began, and since the start, and since which request each job and each task is there
@@ -84,8 +84,8 @@ event_of w asked =
     let scene = scene_at m asked in
     record {
       number = number;
-      time = counted ticked w.time;
-      total = counted ticked w.total;
+      time = one_more_if ticked w.time;
+      total = one_more_if ticked w.total;
       request = asked;
       answer = answer_of m asked;
       fired = fired_of m asked;
@@ -93,11 +93,12 @@ event_of w asked =
       scene = scene;
       era = if begins_with (answer_of m asked) then Some (scene_now (after m asked)) else None;
       jobs = origins_after (since number false) w.jobs scene.seats;
-      tasks = listed (since number false) (left_by ticked (length (fired_of m asked)) w.tasks)
+      tasks = listings_after (since number false)
+          (left_by ticked (length (fired_of m asked)) w.tasks)
           scene.waits;
     }
 
--- what goes on after an event: where an era begins, time, jobs and tasks begin with it
+-- the time after an event: where an era begins, time begins at 0
 abbrev pub time_after : Event → ℕ
 time_after event = if is_some event.era then 0 else event.time
 
@@ -118,6 +119,6 @@ watching_on m event = record {
   tasks = tasks_after event;
 }
 
--- and after the next request
+-- a watched run after its next request
 abbrev pub watched : Watching → Request → Watching
 watched w asked = watching_on (after w.machine asked) (event_of w asked)

@@ -1,5 +1,5 @@
--- What is shown of a state: who runs, whom NEWJOB names, what each core set holds, the tasks in
--- order, phases and codes.
+-- The scene of a state: which job runs, which one NEWJOB names, the job in each core set, the tasks
+-- in order, phases and codes.
 use Rattle.std.specs.Prelude.{ℕ, ◌-◌, ◌==◌, nat_lt, if◌then◌else◌, List, [], ◌∷◌, map}
 use Rattle.std.specs.Prelude.{Option, Some, None, option_map}
 use Rattle.std.specs.List.{fold}
@@ -20,12 +20,12 @@ seated number job = record {
   area = job.area;
 }
 
--- what a core set holds whose entry in the placement is this number, 0 for nobody
+-- the job in a core set whose entry in the placement is this number, 0 for a free set
 abbrev pub seat_of : Jobs → ℕ → Option Seat
 seat_of jobs number = if number == 0 then None
     else option_map (seated number) (job_in jobs.slots number)
 
--- a task, behind all that are due no later
+-- a task, after all that are due no later
 abbrev pub put_in : Pending → List Pending → List Pending
 put_in task [] = task ∷ []
 put_in task (x ∷ xs) = if nat_lt task.due x.due then task ∷ x ∷ xs else x ∷ put_in task xs
@@ -45,7 +45,7 @@ waits_in agenda = map (time_left agenda.time) (by_due agenda.tasks)
 -- all of it
 pub record Scene : Type 0 where
   pub running : Option ℕ
-  pub named : Option ℕ
+  pub next_job : Option ℕ
   pub seats : List (Option Seat)
   pub waits : List Waiting
   pub base : Base
@@ -54,7 +54,7 @@ pub record Scene : Type 0 where
 abbrev pub scene_of : Plain → List ℕ → Scene
 scene_of plain places = record {
   running = plain.work.jobs.running;
-  named = named_of plain.work.jobs;
+  next_job = named_of plain.work.jobs;
   seats = map (seat_of plain.work.jobs) places;
   waits = waits_in plain.work.agenda;
   base = plain.base;

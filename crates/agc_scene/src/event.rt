@@ -1,4 +1,4 @@
-// One request, and all that is shown of it.
+// A request, with all that is shown of it.
 ghost use Rattle.std.specs.Prelude.{◌≡◌};
 ghost use Rattle.agc_machine.specs.Machines.{alarm_with, begins_with};
 
@@ -8,7 +8,7 @@ use crate::scene::Scene;
 use agc_machine::Refusal;
 use agc_plan::{Alarm, Fired, Reply, Request};
 
-/// One request, and all that is shown of it. Times are in centiseconds. Source: profile.
+/// A request, with all that is shown of it. Times are in centiseconds.
 #[derive(Drop)]
 pub struct Event {
     /// The request's number, from 1.
@@ -28,13 +28,13 @@ pub struct Event {
     pub scene: Scene,
     /// The tables with which an era begins, if one does.
     pub era: Option<Scene>,
-    /// Since when each job of `scene` is there.
+    /// The request since which each job of `scene` is there.
     pub jobs: Origins,
-    /// Since when each task of `scene` is there.
+    /// The request since which each task of `scene` waits.
     pub tasks: Listings,
 }
 
-/// Whether an era begins with an answer. Source: profile.
+/// Whether an era begins with an answer.
 pub fn begins_with(answer: &Result<Reply, Refusal>) -> bool
     ensures { result ≡ begins_with answer.now }
 {
@@ -44,8 +44,7 @@ pub fn begins_with(answer: &Result<Reply, Refusal>) -> bool
     }
 }
 
-/// The alarm that an answer tells, if one came. Source: the listings' EXECUTIVE and WAITLIST
-/// sections.
+/// The alarm of an answer, if it has one. Source: the listings' EXECUTIVE and WAITLIST sections.
 pub fn alarm_with(answer: &Result<Reply, Refusal>) -> Option<Alarm>
     ensures { result ≡ alarm_with answer.now }
 {

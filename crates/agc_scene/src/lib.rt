@@ -1,15 +1,14 @@
-//! A machine that is watched: of each request the event, with the scene in which it was answered.
-//! Source: profile.
+//! A machine that is watched: an event for each request, with the scene in which it was answered.
 #![tactic(auto)]
 
 mod event;
 mod listings;
+mod observed_machine;
 mod origins;
 mod scene;
-mod watched;
 
 pub use event::{Event, alarm_with, begins_with};
 pub use listings::{Listing, Listings};
+pub use observed_machine::ObservedMachine;
 pub use origins::{Origin, Origins, Since};
 pub use scene::Scene;
-pub use watched::Watched;

@@ -1,7 +1,7 @@
-// Since which request each task waits.
+// The request since which each task waits.
 ghost use Rattle.std.specs.Prelude.{◌≡◌, ◌+◌, ◌<◌, ◌≤◌, [], ◌∷◌, ◌++◌, length, if◌then◌else◌};
 ghost use Rattle.std.specs.Prelude.{◌^◌, slice_get};
-ghost use Rattle.agc_scene.specs.Origins.{left_by, listed, nearer};
+ghost use Rattle.agc_scene.specs.Origins.{left_by, listings_after, nearer};
 ghost use Rattle.agc_scene.specs.Reading.{is_old, listing_of};
 
 use crate::origins::Since;
@@ -9,15 +9,15 @@ use crate::scene::Scene;
 use arrayvec::ArrayVec;
 use std::marker::Model;
 
-/// In how many centiseconds a task is due, and since when it waits. Source: profile.
+/// The centiseconds after which a task is due, and since when it waits.
 #[derive(Clone, Copy, Default)]
 pub struct Listing {
     pub distance: u32,
     pub since: Since,
 }
 
-/// Since when each task waits, in the order of the tasks. Contracts see them as a list. Source:
-/// profile.
+/// The request since which each task waits, in the order of the tasks. Contracts see them as a
+/// list.
 #[derive(Drop)]
 pub struct Listings {
     listings: ArrayVec<Listing, 9>,
@@ -33,7 +33,7 @@ impl Model for Listings {
 }
 
 impl Listings {
-    /// No task waits.
+    /// No tasks.
     pub(crate) fn new() -> Listings
         ensures { result ≡ [] }
     {
@@ -42,7 +42,7 @@ impl Listings {
         }
     }
 
-    /// One more task waits, behind the others.
+    /// Adds a task, after the others.
     fn push(&mut self, listing: Listing)
         requires { length self.old < 9 }
         ensures items { self.new ≡ self.old ++ listing ∷ [] }
@@ -51,7 +51,7 @@ impl Listings {
         self.listings.push(listing);
     }
 
-    /// All of them: at most nine. Source: profile.
+    /// All listings: at most nine.
     pub fn as_slice(&self) -> &[Listing]
         ensures value { result.now ≡ self.now }
         ensures most { length result.now ≤ 9 }
@@ -59,8 +59,7 @@ impl Listings {
         self.listings.as_slice()
     }
 
-    /// The same once more.
-    pub(crate) fn copied(&self) -> Listings
+    pub(crate) fn duplicate(&self) -> Listings
         ensures { result ≡ self.now }
     {
         let mut copy = Listings::new();
@@ -71,7 +70,7 @@ impl Listings {
     }
 }
 
-/// A task that was there, a tick later or not.
+/// A task that was listed before, a tick later or not.
 fn nearer(ticked: bool, listing: Listing) -> Listing
     ensures { result ≡ nearer ticked listing }
 {
@@ -85,7 +84,7 @@ fn nearer(ticked: bool, listing: Listing) -> Listing
     }
 }
 
-/// The tasks that were there and still are: the first so many fired.
+/// The tasks that were listed before and still are: the first ones fired.
 pub(crate) fn left_by(ticked: bool, fired: usize, listings: &Listings) -> Listings
     ensures { result ≡ left_by ticked fired listings.now }
 {
@@ -97,7 +96,7 @@ pub(crate) fn left_by(ticked: bool, fired: usize, listings: &Listings) -> Listin
     left
 }
 
-/// Whether a task was there that is due at this time.
+/// Whether a task that is due at this time was listed before.
 fn is_old(old: Option<Listing>, distance: u32) -> bool
     ensures { result ≡ is_old old distance }
 {
@@ -107,7 +106,7 @@ fn is_old(old: Option<Listing>, distance: u32) -> bool
     }
 }
 
-/// A task that is due at this time: the one that was there, or else one that came now.
+/// A task that is due at this time: one that was listed before, or a new one.
 fn listing_of(now: Since, old: Option<Listing>, distance: u32) -> Listing
     ensures { result ≡ listing_of now old distance }
 {
@@ -129,7 +128,7 @@ fn listing_of(now: Since, old: Option<Listing>, distance: u32) -> Listing
     }
 }
 
-/// The task of a place, if there is one.
+/// The task at a place, if there is one.
 fn at(listings: &[Listing], place: usize) -> Option<Listing>
     ensures { result ≡ slice_get listings.now place }
 {
@@ -139,17 +138,17 @@ fn at(listings: &[Listing], place: usize) -> Option<Listing>
     }
 }
 
-/// How many of those that were there have been found, after one more task.
-fn found_after(place: usize, is_old: bool) -> usize
+/// The number of earlier tasks that have been found, after one more task.
+fn old_count_after(place: usize, is_old: bool) -> usize
     requires { place < 2 ^ 32 }
     ensures { result ≡ (if is_old then place + 1 else place) }
 {
     if is_old { place + 1 } else { place }
 }
 
-/// Since when each task waits: those that were there stand first among those of their time.
-pub(crate) fn listed(now: Since, were: &Listings, scene: &Scene) -> Listings
-    ensures { result ≡ listed now were.now scene.now.waits }
+/// The request since which each task waits. Of those due at one time the earlier ones come first.
+pub(crate) fn listings_after(now: Since, were: &Listings, scene: &Scene) -> Listings
+    ensures { result ≡ listings_after now were.now scene.now.waits }
 {
     let mut found = Listings::new();
     let mut place = 0;
@@ -157,7 +156,7 @@ pub(crate) fn listed(now: Since, were: &Listings, scene: &Scene) -> Listings
         let distance = wait.distance;
         let old = at(were.as_slice(), place);
         found.push(listing_of(now, old, distance));
-        place = found_after(place, is_old(old, distance));
+        place = old_count_after(place, is_old(old, distance));
     }
     found
 }

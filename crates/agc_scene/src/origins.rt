@@ -1,28 +1,28 @@
-// Since which request each job is there.
+// The request since which each job is there.
 ghost use Rattle.std.specs.Prelude.{◌≡◌, ◌+◌, ◌<◌, ◌≤◌, [], ◌∷◌, ◌++◌, length, unwrap_or};
-ghost use Rattle.agc_scene.specs.Origins.{known, origin_in, origins_after};
+ghost use Rattle.agc_scene.specs.Origins.{known_since, origin_in, origins_after};
 
 use crate::scene::Scene;
 use agc_exec::Seat;
 use arrayvec::ArrayVec;
 use std::marker::Model;
 
-/// With which request a job or a task came, 0 being power-up; and whether with the restart of it.
-/// Source: profile.
+/// The request with which a job or a task came, 0 for power-up; and whether it came with that
+/// request's restart.
 #[derive(Clone, Copy, Default)]
 pub struct Since {
     pub request: u64,
     pub restart: bool,
 }
 
-/// Since when the job of this number is there. Source: profile.
+/// The request since which the job of this number is there.
 #[derive(Clone, Copy, Default)]
 pub struct Origin {
     pub job: u16,
     pub since: Since,
 }
 
-/// Since when each job is there that has a core set. Contracts see them as a list. Source: profile.
+/// The request since which each job in a core set is there. Contracts see them as a list.
 #[derive(Drop)]
 pub struct Origins {
     origins: ArrayVec<Origin, 8>,
@@ -38,7 +38,7 @@ impl Model for Origins {
 }
 
 impl Origins {
-    /// None is known.
+    /// No origins.
     pub(crate) fn new() -> Origins
         ensures { result ≡ [] }
     {
@@ -47,7 +47,7 @@ impl Origins {
         }
     }
 
-    /// One more is known.
+    /// Adds an origin.
     fn push(&mut self, origin: Origin)
         requires { length self.old < 8 }
         ensures items { self.new ≡ self.old ++ origin ∷ [] }
@@ -56,7 +56,7 @@ impl Origins {
         self.origins.push(origin);
     }
 
-    /// All that are known: at most eight. Source: profile.
+    /// All origins: at most eight.
     pub fn as_slice(&self) -> &[Origin]
         ensures value { result.now ≡ self.now }
         ensures most { length result.now ≤ 8 }
@@ -64,8 +64,7 @@ impl Origins {
         self.origins.as_slice()
     }
 
-    /// The same once more.
-    pub(crate) fn copied(&self) -> Origins
+    pub(crate) fn duplicate(&self) -> Origins
         ensures { result ≡ self.now }
     {
         let mut copy = Origins::new();
@@ -75,9 +74,9 @@ impl Origins {
         copy
     }
 
-    /// Since when the job of this number is there, where that is known. Source: profile.
+    /// The request since which the job of this number is there, if that is known.
     pub fn of_job(&self, job: u16) -> Option<Since>
-        ensures { result ≡ known self.now job }
+        ensures { result ≡ known_since self.now job }
     {
         for origin in self.as_slice() {
             if origin.job == job {
@@ -88,17 +87,16 @@ impl Origins {
     }
 }
 
-/// What is known, or else this.
-fn known_or(known: Option<Since>, now: Since) -> Since
-    ensures { result ≡ unwrap_or known now }
+fn known_or(known_since: Option<Since>, now: Since) -> Since
+    ensures { result ≡ unwrap_or known_since now }
 {
-    match known {
+    match known_since {
         None => now,
-        Some(known) => known,
+        Some(known_since) => known_since,
     }
 }
 
-/// Appends since when the job of a core set is there, if one is.
+/// Appends the origin of the job in a core set, if there is one.
 fn add_origin(found: &mut Origins, now: Since, origins: &Origins, seat: Option<Seat>)
     requires { length found.old < 8 }
     ensures items { found.new ≡ found.old ++ origin_in now origins.now seat }
@@ -114,7 +112,7 @@ fn add_origin(found: &mut Origins, now: Since, origins: &Origins, seat: Option<S
     }
 }
 
-/// Since when each job is there: what was known, or else that it came now.
+/// The origin of each job: the known one, or now.
 pub(crate) fn origins_after(now: Since, origins: &Origins, scene: &Scene) -> Origins
     ensures { result ≡ origins_after now origins.now scene.now.seats }
 {

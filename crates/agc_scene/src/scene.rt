@@ -1,4 +1,4 @@
-// What is shown of a state.
+// A scene: the part of a state that is shown.
 ghost use Rattle.std.specs.Prelude.{◌≡◌, ◌≤◌, length};
 ghost use Rattle.agc_word.specs.Layout.{IsSized};
 ghost use Rattle.agc_exec.specs.Seats.{seats_in};
@@ -15,31 +15,31 @@ use arrayvec::ArrayVec;
 use std::marker::Model;
 
 /// The tables as they are shown: the running job, the job that NEWJOB names, the contents of each
-/// core set, the waiting tasks, phases and FAILREG. Source: profile.
+/// core set, the waiting tasks, phases and FAILREG.
 #[derive(Drop)]
 pub struct Scene {
     running: Option<JobNo>,
-    named: Option<u16>,
+    next_job: Option<u16>,
     seats: ArrayVec<Option<Seat>, 8>,
     waits: Waits,
     base: Base,
 }
 
 impl Model for Scene {
-    ghost use Rattle.agc_scene.specs.Scenes as shown;
+    ghost use Rattle.agc_scene.specs.Scenes as moment_of;
 
-    ghost Value = { shown.Scene };
+    ghost Value = { moment_of.Scene };
 
     ghost view = { λ s. record {
       running = s.running;
-      named = s.named;
+      next_job = s.next_job;
       seats = s.seats.items;
       waits = s.waits;
       base = s.base;
     } };
 }
 
-/// What each core set holds.
+/// The job in each core set, set 0 first.
 fn seats_of(e: &Erasable) -> ArrayVec<Option<Seat>, 8>
     requires { IsSized e.now }
     ensures { result.items ≡ seats_in e.now }
@@ -51,14 +51,13 @@ fn seats_of(e: &Erasable) -> ArrayVec<Option<Seat>, 8>
     seats
 }
 
-/// What is shown of these words.
 pub(crate) fn scene_of(e: &Erasable) -> Scene
     requires { AreLawful e.now }
     ensures { result ≡ scene_in e.now }
 {
     Scene {
         running: running(e),
-        named: named_job(e),
+        next_job: named_job(e),
         seats: seats_of(e),
         waits: tasks_waiting(e),
         base: Base::read(e),
@@ -74,16 +73,16 @@ impl Scene {
         self.running
     }
 
-    /// The number, 1 to 8, of the job that NEWJOB names: the best, where it is strictly more urgent
+    /// The number, 1 to 8, of the job that NEWJOB names: the best, if it is strictly more urgent
     /// than the one that runs; else None. Source: the listings' EXECUTIVE section; numbers:
     /// profile.
-    pub fn named(&self) -> Option<u16>
-        ensures { result ≡ self.now.named }
+    pub fn next_job(&self) -> Option<u16>
+        ensures { result ≡ self.now.next_job }
     {
-        self.named
+        self.next_job
     }
 
-    /// What each core set holds, set 0 first: seven or eight. Source: the listings' EXECUTIVE
+    /// The job in each core set, set 0 first: seven or eight sets. Source: the listings' EXECUTIVE
     /// section.
     pub fn seats(&self) -> &[Option<Seat>]
         ensures seats { result.now ≡ self.now.seats }
@@ -127,7 +126,7 @@ impl Scene {
         self.base.phases()
     }
 
-    /// FAILREG: the first, the second and the latest code. Source: profile.
+    /// FAILREG: the first, the second and the latest code.
     pub fn codes(&self) -> [Option<Code>; 3]
         ensures { result ≡ self.now.base.codes }
     {

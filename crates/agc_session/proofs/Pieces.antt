@@ -11,7 +11,7 @@ use Rattle.agc_plan.specs.declared.request.Request.{Request}
 use Rattle.agc_plan.specs.Pulses.{pulse_requests}
 use Rattle.agc_document.specs.Benches.{Benched}
 use Rattle.agc_session.specs.declared.source.Source.TheVariants.{Script, Worker}
-use Rattle.agc_session.specs.Pieces.{Piece, Walked, asked_in, worker_pieces, device_pieces, pulse_asks, pulse_piece, bench_pieces, to_come, script_piece}
+use Rattle.agc_session.specs.Pieces.{Piece, Walked, piece_requests, worker_pieces, device_pieces, pulse_asks, pulse_piece, bench_pieces, to_come, script_piece}
 use Rattle.agc_session.specs.Runs.{bench_plan, bench_requests, device_requests}
 
 -- before the first, all are to come
@@ -69,13 +69,13 @@ pub all_walked : (w : Walked) (ds : List (Line × ℕ)) → ds ≡ w.devices →
 all_walked w ds e l b high end = at_devices w ds e l b high ∙ ap (flat_map (device_pieces w.key w.radar)) (none_left ds w.device end)
 
 -- the pieces ask for the requests of the bench
-workers_ask : (k : ℕ) (ws : List (List Request)) → flat_map asked_in (worker_pieces k ws) ≡ flat_map (λ requests. requests) ws
+workers_ask : (k : ℕ) (ws : List (List Request)) → flat_map piece_requests (worker_pieces k ws) ≡ flat_map (λ requests. requests) ws
 workers_ask k [] = refl
-workers_ask k (w ∷ ws) = flat_map-cons asked_in (record { source = Worker k; requests = w }) (worker_pieces (k + 1) ws) ∙ ap (λ (rs : List Request). w ++ rs) (workers_ask (k + 1) ws) ∙ sym (flat_map-cons (λ (rs : List Request). rs) w ws)
+workers_ask k (w ∷ ws) = flat_map-cons piece_requests (record { source = Worker k; requests = w }) (worker_pieces (k + 1) ws) ∙ ap (λ (rs : List Request). w ++ rs) (workers_ask (k + 1) ws) ∙ sym (flat_map-cons (λ (rs : List Request). rs) w ws)
 
-pulses_ask : (p : Piece) (n : ℕ) → flat_map asked_in (replicate n p) ≡ flat_map (λ all. all) (replicate n p.requests)
+pulses_ask : (p : Piece) (n : ℕ) → flat_map piece_requests (replicate n p) ≡ flat_map (λ all. all) (replicate n p.requests)
 pulses_ask p zero = refl
-pulses_ask p (suc n) = flat_map-cons asked_in p (replicate n p) ∙ ap (λ (rs : List Request). p.requests ++ rs) (pulses_ask p n) ∙ sym (flat_map-cons (λ (rs : List Request). rs) p.requests (replicate n p.requests))
+pulses_ask p (suc n) = flat_map-cons piece_requests p (replicate n p) ∙ ap (λ (rs : List Request). p.requests ++ rs) (pulses_ask p n) ∙ sym (flat_map-cons (λ (rs : List Request). rs) p.requests (replicate n p.requests))
 
 -- a pulse asks for what the bench's plan says
 pub same_pulse : (bench : Benched) (line : Line) → pulse_asks bench.key bench.radar line ≡ pulse_requests (bench_plan bench) line
@@ -83,22 +83,22 @@ same_pulse bench Timer = refl
 same_pulse bench Key = refl
 same_pulse bench Radar = refl
 
-devices_ask : (bench : Benched) (ds : List (Line × ℕ)) → flat_map asked_in (flat_map (device_pieces bench.key bench.radar) ds) ≡ flat_map (device_requests bench) ds
+devices_ask : (bench : Benched) (ds : List (Line × ℕ)) → flat_map piece_requests (flat_map (device_pieces bench.key bench.radar) ds) ≡ flat_map (device_requests bench) ds
 devices_ask bench [] = refl
 devices_ask bench (d ∷ ds) =
     let pieces = device_pieces bench.key bench.radar in
-    ap (flat_map asked_in) (flat_map-cons pieces d ds) ∙ flat_map-append asked_in (pieces d) (flat_map pieces ds)
-    ∙ ap (λ (rs : List Request). rs ++ flat_map asked_in (flat_map pieces ds)) (pulses_ask (pulse_piece bench.key bench.radar d.0) d.1 ∙ ap (λ (rs : List Request). flat_map (λ all. all) (replicate d.1 rs)) (same_pulse bench d.0))
+    ap (flat_map piece_requests) (flat_map-cons pieces d ds) ∙ flat_map-append piece_requests (pieces d) (flat_map pieces ds)
+    ∙ ap (λ (rs : List Request). rs ++ flat_map piece_requests (flat_map pieces ds)) (pulses_ask (pulse_piece bench.key bench.radar d.0) d.1 ∙ ap (λ (rs : List Request). flat_map (λ all. all) (replicate d.1 rs)) (same_pulse bench d.0))
     ∙ ap (λ (rs : List Request). device_requests bench d ++ rs) (devices_ask bench ds)
     ∙ sym (flat_map-cons (device_requests bench) d ds)
 
-pub pieces_ask : (bench : Benched) → flat_map asked_in (bench_pieces bench) ≡ bench_requests bench
+pub pieces_ask : (bench : Benched) → flat_map piece_requests (bench_pieces bench) ≡ bench_requests bench
 unfolding bench_pieces bench_requests
 pieces_ask bench =
     let devices = flat_map (device_pieces bench.key bench.radar) bench.devices in
-    flat_map-cons asked_in (script_piece bench.script) (worker_pieces 1 bench.workers ++ devices)
-    ∙ ap (λ (rs : List Request). bench.script ++ rs) (flat_map-append asked_in (worker_pieces 1 bench.workers) devices
-    ∙ ap (λ (rs : List Request). rs ++ flat_map asked_in devices) (workers_ask 1 bench.workers)
+    flat_map-cons piece_requests (script_piece bench.script) (worker_pieces 1 bench.workers ++ devices)
+    ∙ ap (λ (rs : List Request). bench.script ++ rs) (flat_map-append piece_requests (worker_pieces 1 bench.workers) devices
+    ∙ ap (λ (rs : List Request). rs ++ flat_map piece_requests devices) (workers_ask 1 bench.workers)
     ∙ ap (λ (rs : List Request). flat_map (λ requests. requests) bench.workers ++ rs) (devices_ask bench bench.devices))
 
 -- a script is one piece
@@ -107,5 +107,5 @@ unfolding to_come
 one_piece w l b k d ws ds = rw (l, b, k, d, ws, ds) refl
 
 -- the next piece, and the rest
-pub next_piece : (w new : Walked) → to_come w ≡ new.here ∷ to_come new → flat_map asked_in (to_come w) ≡ new.here.requests ++ flat_map asked_in (to_come new)
-next_piece w new is = ap (flat_map asked_in) is ∙ flat_map-cons asked_in new.here (to_come new)
+pub next_piece : (w new : Walked) → to_come w ≡ new.here ∷ to_come new → flat_map piece_requests (to_come w) ≡ new.here.requests ++ flat_map piece_requests (to_come new)
+next_piece w new is = ap (flat_map piece_requests) is ∙ flat_map-cons piece_requests new.here (to_come new)

@@ -37,7 +37,7 @@ stopped_front {machine} {t} {rs} {o} {n} stop =
     let whole : answer_lines machine rs ≡ all = ap (answer_lines machine) stop.whole ∙ lines_append machine stop.before (stop.last ∷ stop.after) in
     subst (λ (l : List ℕ). AppendsFront o n l) (sym whole)
     (up_to_front o stop.between n all own rest
-    (up_to_more o o stop.between all (answer_lines machine stop.before) (own ++ rest) (up_to_start o all) (lines_written machine stop.before o stop.between stop.told)) stop.front)
+    (up_to_more o o stop.between all (answer_lines machine stop.before) (own ++ rest) (up_to_start o all) (lines_written machine stop.before o stop.between stop.end_with_report)) stop.front)
 
 -- a front of a session's text was written: of its answers' lines, or these all and a front of the report
 abbrev pub AppendsSessionFront : Option (List ℕ) → Option (List ℕ) → Machined → List Request → Type 0

@@ -15,9 +15,9 @@ pub record Piece : Type 0 where
   pub source : Source
   pub requests : List Request
 
--- what a piece asks for
-abbrev pub asked_in : Piece → List Request
-asked_in piece = piece.requests
+-- the requests of a piece
+abbrev pub piece_requests : Piece → List Request
+piece_requests piece = piece.requests
 
 -- the workers' pieces, from this number on
 abbrev pub worker_pieces : ℕ → List (List Request) → List Piece
@@ -25,7 +25,7 @@ worker_pieces k [] = []
 worker_pieces k (requests ∷ others) =
     record { source = Worker k; requests = requests } ∷ worker_pieces (k + 1) others
 
--- what a pulse of a line asks for, where key and radar have these actions
+-- the requests of a pulse, with these actions for key and radar
 abbrev pub pulse_asks : List Action → List Action → Line → List Request
 pulse_asks key radar line = pulse_requests
     (planned_with (record { rows = []; entries = []; key = key; radar = radar }) 0) line
@@ -46,7 +46,7 @@ unfoldable pub bench_pieces : Benched → List Piece
 bench_pieces bench = script_piece bench.script ∷ (worker_pieces 1 bench.workers
     ++ flat_map (device_pieces bench.key bench.radar) bench.devices)
 
--- where a walk stands: what it goes through; the piece on which it stands, which comes so many
+-- where a walk stands: what it goes through; the piece on which it stands, which comes this many
 -- times more; whether the script was walked, and how many workers and devices were
 pub record Walked : Type 0 where
   pub script : List Request
@@ -75,7 +75,7 @@ abbrev pub Advances : Walked → Bool → Walked → Type 0
 Advances old true new = to_come old ≡ new.here ∷ to_come new
 Advances old false new = (to_come old ≡ []) × (to_come new ≡ [])
 
--- what is lent of the bench, or the pulse's requests
+-- the requests of the piece: the bench's own, or the pulse's
 abbrev pub requests_here : Source → List Request → List Request → List Request
 requests_here (Pulse line) lent pulse = pulse
 requests_here other lent pulse = lent

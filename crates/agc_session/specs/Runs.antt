@@ -35,21 +35,21 @@ abbrev pub bench_base : Option (List ℕ) → Base
 bench_base None = fresh_base
 bench_base (Some words) = power_base (pairs_agree words) words
 
--- what a bench plans
+-- the plan of a bench
 abbrev pub plan_of : Benched → Written
 plan_of bench = record
     { rows = bench.rows; entries = bench.entries; key = bench.key; radar = bench.radar }
 
--- and on how many core sets
+-- the plan of a bench, with its number of core sets
 abbrev pub bench_plan : Benched → Planned
 bench_plan bench = planned_with (plan_of bench) bench.sets
 
--- the machine of a bench, on so many core sets
+-- the machine of a bench, on this many core sets
 abbrev pub machine_on : ℕ → Benched → Machined
 machine_on sets bench = begun_with (planned_with (plan_of bench) sets) bench.limit bench.allowance
     (bench_base bench.power)
 
--- and on as many as the bench says
+-- the machine of a bench, with the bench's number of core sets
 unfoldable pub bench_machine : Benched → Machined
 bench_machine bench = machine_on bench.sets bench
 

@@ -25,9 +25,9 @@ pub record IsSession (machine : Machined) (requests : List Request) (text : List
       ++ report_text (after_all machine requests).plan.sets words
       (after_all machine requests).totals
 
--- what a run of one caller wrote: the session's text and nothing else; where a write failed, a
--- front of it: of its answers' lines, or of them all and the report; nothing where there was no
--- memory; no other fault comes
+-- the text that a run of one caller wrote: the session's and nothing else; if a write failed, a
+-- front of it: part of the answers' lines, or all of them and part of the report; nothing if memory
+-- ran out; no other fault comes
 abbrev pub WritesSession : {T : Type 0} → Option (List ℕ) → Option (List ℕ) → Machined
     → List Request → Result T RunFault → Type 0
 WritesSession old new machine requests (Ok _) = (text : List ℕ) × IsSession machine requests text

@@ -15,7 +15,7 @@ abbrev pub WritesReport : {T E : Type 0} → Option (List ℕ) → Option (List 
 WritesReport old new machine result = (words : List ℕ) × HandsOut machine words
     × Writes old new (report_text machine.plan.sets words machine.totals) result
 
--- what a machine writes of a request: the answer's line; where a write fails, a front of it
+-- a machine writes the line of its answer to a request; if a write fails, a front of it
 abbrev pub line_written : Writing Machined
 line_written machine request old new = Appends old new (line_for machine request)
 

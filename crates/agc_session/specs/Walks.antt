@@ -1,15 +1,14 @@
--- What comes of requests that are asked in order: by the state after one, by what one writes, and
--- by what it writes where a write fails.
+-- Requests that are asked in order: how each changes the state, the text that each writes, and the
+-- text if a write fails.
 use Rattle.std.specs.Prelude.{◌≡◌, ℕ, List, [], ◌∷◌, ◌++◌, Option, Result, Ok, Err}
 use Rattle.std.specs.List.{fold}
 use Rattle.agc_plan.specs.declared.request.Request.{Request}
 
--- what one request, asked in a state, makes of what a writer holds
+-- how one request, asked in a state, changes the text of a writer
 abbrev pub Writing : Type 0 → Type 1
 Writing S = S → Request → Option (List ℕ) → Option (List ℕ) → Type 0
 
--- these requests were asked in order, each in the state that the one before it left, and each wrote
--- what it writes
+-- each of these requests was asked in the state that the one before it left, and wrote its text
 unfoldable pub AllWritten : {S : Type 0} → (S → Request → S) → Writing S → S → List Request
     → Option (List ℕ) → Option (List ℕ) → Type 0
 AllWritten next writes state [] old new = new ≡ old
@@ -27,11 +26,11 @@ pub record StopsIn {S : Type 0} (next : S → Request → S) (writes stops : Wri
   pub whole : requests ≡ before ++ last ∷ after
   pub end_is : end ≡ next (fold next start before) last
   pub between : Option (List ℕ)
-  pub told : AllWritten next writes start before old between
+  pub end_with_report : AllWritten next writes start before old between
   pub front : stops (fold next start before) last between new
 
--- requests that are asked in order: all were asked and written, and nothing else was; where a write
--- failed, it stopped in one of them
+-- all requests were asked in order and written, and nothing else was; if a write failed, it stopped
+-- in one of them
 abbrev pub AsksInOrder : {S T E : Type 0} → (S → Request → S) → Writing S → Writing S → S
     → List Request → S → Option (List ℕ) → Option (List ℕ) → Result T E → Type 0
 AsksInOrder next writes stops start asked end old new (Ok _) =

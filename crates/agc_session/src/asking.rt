@@ -1,4 +1,4 @@
-// A bench's machine that is asked, piece by piece.
+// A bench's machine that gets its requests, piece by piece.
 ghost use Rattle.agc_machine.specs.Machines.{after};
 ghost use Rattle.agc_session.specs.Runs.{bench_requests};
 ghost use Rattle.agc_session.specs.Steps.{line_written, line_stopped};

@@ -1,17 +1,17 @@
-// How many requests a bench has.
+// The number of a bench's requests.
 use crate::source::Source;
 use crate::walk::Walk;
 use agc_document::Bench;
 
-/// How many requests a bench has, up to the greatest number of 64 bits, and whether they come of
-/// more than one source: the script, workers, lines. Source: profile.
+/// The number of a bench's requests, up to the greatest number of 64 bits, and whether they have
+/// more than one source: the script, workers, lines.
 #[derive(Clone, Copy)]
-pub struct Counts {
+pub struct RequestCount {
     pub requests: u64,
     pub is_shared: bool,
 }
 
-/// Whether another source than this one asked before.
+/// Whether there was another source before this one.
 fn is_other(first: Option<Source>, source: Source) -> bool {
     match first {
         None => false,
@@ -19,8 +19,8 @@ fn is_other(first: Option<Source>, source: Source) -> bool {
     }
 }
 
-/// Counts the requests of a bench. Source: profile.
-pub fn count_requests(bench: &Bench) -> Counts {
+/// Counts the requests of a bench.
+pub fn count_requests(bench: &Bench) -> RequestCount {
     let mut requests: u64 = 0;
     let mut first = None;
     let mut is_shared = false;
@@ -33,7 +33,7 @@ pub fn count_requests(bench: &Bench) -> Counts {
             first = Some(walk.source());
         }
     }
-    Counts {
+    RequestCount {
         requests,
         is_shared,
     }

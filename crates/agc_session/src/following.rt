@@ -1,4 +1,4 @@
-// What pulses ask for.
+// The requests of pulses.
 ghost use Rattle.std.specs.Prelude.{◌≡◌, ◌≤◌, ◌+◌, ◌<◌, ◌++◌, ◌==◌, length, take};
 ghost use Rattle.std.specs.Option.{option_to_list};
 ghost use Rattle.agc_plan.specs.Pulses.{action_request, asks_nothing, pulse_requests};
@@ -9,7 +9,7 @@ ghost use Rattle.agc_session.specs.Runs.{bench_plan};
 use agc_document::Bench;
 use agc_plan::{Action, Line, Request, action_request};
 
-/// Puts what an action asks for after the first so many requests. Returns how many there are then.
+/// Puts the request of an action after the first `count` requests. Returns their number then.
 fn put_request(requests: &mut [Request; 4], count: usize, action: Action) -> usize
     requires { count < 4 }
     ensures list { take result requests.new
@@ -25,7 +25,7 @@ fn put_request(requests: &mut [Request; 4], count: usize, action: Action) -> usi
     }
 }
 
-/// What these actions ask for, in order: the first so many of these requests.
+/// The requests of these actions, in order, and how many of the four there are.
 fn requests_for(actions: &[Action]) -> ([Request; 4], usize)
     requires { length actions.now ≤ 4 }
     ensures requests { take result.1 result.0 ≡ requests_for actions.now }
@@ -39,7 +39,7 @@ fn requests_for(actions: &[Action]) -> ([Request; 4], usize)
     (requests, count)
 }
 
-/// What a pulse of the line asks for: a tick for a timer's, else what these actions do.
+/// The requests of a pulse: a tick for the timer, otherwise those of the actions.
 pub(crate) fn pulse_asks(key: &[Action], radar: &[Action], line: Line) -> ([Request; 4], usize)
     requires key { length key.now ≤ 4 }
     requires radar { length radar.now ≤ 4 }
@@ -53,7 +53,7 @@ pub(crate) fn pulse_asks(key: &[Action], radar: &[Action], line: Line) -> ([Requ
     }
 }
 
-/// What a pulse of the line asks for, by the bench's plan.
+/// The requests of a pulse, by the bench's plan.
 fn pulse_of(bench: &Bench, line: Line) -> ([Request; 4], usize)
     ensures requests { take result.1 result.0 ≡ pulse_requests (bench_plan bench.now) line }
     ensures most { result.1 ≤ 4 }
@@ -61,8 +61,8 @@ fn pulse_of(bench: &Bench, line: Line) -> ([Request; 4], usize)
     pulse_asks(bench.key().as_slice(), bench.radar().as_slice(), line)
 }
 
-/// Whether pulses of the line ask for nothing: a timer's ask for ticks, the others' for what the
-/// plan's actions do. Source: profile.
+/// Whether pulses of the line make no requests. A timer's are ticks; the others' are those of the
+/// plan's actions.
 pub fn asks_nothing(bench: &Bench, line: Line) -> bool
     ensures { result ≡ asks_nothing (bench_plan bench.now) line }
 {

@@ -1,4 +1,4 @@
-//! Laws of what is written of a machine: each is the contract of a function that does nothing.
+//! Laws of a machine's texts: each is the contract of a function that does nothing.
 
 ghost use Rattle.std.specs.Prelude.{◌≡◌, ℕ, List};
 ghost use Rattle.agc_plan.specs.declared.request.Request.{Request};
@@ -14,7 +14,7 @@ pub fn machine_has_one_report()
         → report_text m.plan.sets these m.totals ≡ report_text m.plan.sets those m.totals }
 {}
 
-/// A session has just one text: so whoever wrote a text of it wrote that one.
+/// A session has just one text.
 pub fn session_has_one_text()
     ensures { (machine : Machined) (requests : List Request) (these those : List ℕ)
         → IsSession machine requests these → IsSession machine requests those → these ≡ those }

@@ -11,10 +11,10 @@ mod run_fault;
 mod source;
 mod walk;
 
-pub use counting::{Counts, count_requests};
+pub use counting::{RequestCount, count_requests};
 pub use following::asks_nothing;
 pub use progress::{Progress, Silent};
 pub use run::{bench_plan, machine_of, machine_on, run_script, script_machine, serial};
-pub use run_fault::{RunFault, written};
+pub use run_fault::{RunFault, write_result};
 pub use source::{Source, line_name};
 pub use walk::Walk;

@@ -1,16 +1,16 @@
-// Who is told how far work has come.
+// Displays of how far work has come.
 
-/// Whatever shows how far work has come that is counted, as the requests of a run or the runs of a
-/// sweep: it is given their number, and hears of each one that is done. Source: profile.
+/// A display of how far work has come that can be counted, such as the requests of a run or the
+/// runs of a sweep. It is given their number, and then told of each one that is done.
 pub trait Progress {
-    /// So many more are to be done. Source: profile.
+    /// Adds to the number to be done.
     fn expect(&mut self, count: u64);
 
-    /// One more is done. Source: profile.
+    /// Counts one more that is done.
     fn done(&mut self);
 }
 
-/// Reports go nowhere. Source: profile.
+/// No display.
 #[derive(Clone, Copy, Default)]
 pub struct Silent;
 

@@ -7,7 +7,7 @@ use std::alloc::{AllocError, AllocFailed};
 use std::thread::SpawnError;
 use std::{fmt, io};
 
-/// Why a run did not come to its end. Source: profile.
+/// A reason why a run ended early.
 #[derive(Clone, Copy, PartialEq, Eq, Debug)]
 pub enum RunFault {
     /// Nothing was written.
@@ -17,7 +17,7 @@ pub enum RunFault {
     Output,
     /// A thread couldn't be started. Nothing was written.
     NoThread,
-    /// Shares are missing. Nothing was written. It is proved that no run comes to this.
+    /// Shares are missing. Nothing was written. It is proved that no run ends so.
     Lost,
 }
 
@@ -78,12 +78,12 @@ impl fmt::Display for RunFault {
 
 impl std::error::Error for RunFault {}
 
-/// The result of a write, as runs return it. Source: profile.
+/// The result of a write, as runs return it.
 ///
 /// # Errors
 ///
-/// Where the write failed.
-pub fn written(put: io::Result<()>) -> Result<(), Output>
+/// If the write failed.
+pub fn write_result(put: io::Result<()>) -> Result<(), Output>
     ensures { IsOk result ↔ IsOk put }
 {
     put.map_err(|_failed| Output)

@@ -1,9 +1,8 @@
-// Who asks for a request.
+// Sources of requests.
 use agc_plan::Line;
 use std::fmt;
 
-/// Who asks for a request: the script, a worker by its number from 1, or a pulse of a line.
-/// Source: profile.
+/// The source of a request: the script, a worker by its number from 1, or a pulse of a line.
 #[derive(Clone, Copy, PartialEq, Eq)]
 pub enum Source {
     Script,
@@ -11,7 +10,7 @@ pub enum Source {
     Pulse(Line),
 }
 
-/// What a line of pulses is called in rows and sentences. Source: profile.
+/// The name of a pulse line in rows and sentences.
 pub fn line_name(line: Line) -> &'static str {
     match line {
         Line::Timer => "timer",

@@ -9,8 +9,8 @@ use agc_document::Bench;
 use agc_plan::{Action, Line, Request};
 use std::marker::Model;
 
-/// A walk over a bench or a script: it stands on requests that one source asks for, one after the
-/// other. Contracts see the pieces that are still to come. Source: profile.
+/// A walk over a bench or a script: it is at requests of one source, in order. Contracts see the
+/// pieces that are still to come.
 #[derive(Drop)]
 pub struct Walk<'a> {
     script: &'a [Request],
@@ -55,7 +55,7 @@ impl<'a> Model for Walk<'a> {
 }
 
 impl<'a> Walk<'a> {
-    /// A walk over a bench, before the first piece. Source: profile.
+    /// A walk over a bench, before the first piece.
     pub fn new(bench: &'a Bench) -> Walk<'a>
         ensures all { to_come result ≡ bench_pieces bench.now }
         ensures none { result.here.requests ≡ [] }
@@ -77,7 +77,7 @@ impl<'a> Walk<'a> {
         }
     }
 
-    /// A walk over a script, before it. Source: profile.
+    /// A walk over a script, before the first piece.
     pub fn of_script(script: &'a [Request]) -> Walk<'a>
         ensures all { to_come result ≡ script_piece script.now ∷ [] }
         ensures none { result.here.requests ≡ [] }
@@ -99,14 +99,14 @@ impl<'a> Walk<'a> {
         }
     }
 
-    /// Who asks for the requests on which it stands. Source: profile.
+    /// The source of the requests at which it is.
     pub fn source(&self) -> Source
         ensures { result ≡ self.now.here.source }
     {
         self.source
     }
 
-    /// The requests on which it stands. Source: profile.
+    /// The requests at which it is.
     pub fn requests(&self) -> &[Request]
         ensures { result.now ≡ self.now.here.requests }
     {
@@ -117,7 +117,7 @@ impl<'a> Walk<'a> {
         }
     }
 
-    /// Goes on to the next worker's.
+    /// Goes on to the requests of the next worker.
     fn next_worker(&mut self) -> bool
         requires left { self.old.left ≡ 0 }
         requires begun { self.old.begun ≡ true }
@@ -136,7 +136,7 @@ impl<'a> Walk<'a> {
         }
     }
 
-    /// Stands on pulses of a line, of which so many more come.
+    /// Goes to the first of `left` pulses of a line.
     fn stand(&mut self, line: Line, left: u32)
         ensures { self.new ≡ record self.old {
           here = pulse_piece self.old.key self.old.radar line;
@@ -169,7 +169,7 @@ impl<'a> Walk<'a> {
         false
     }
 
-    /// Goes on to the next piece. Returns whether there was one. Source: profile.
+    /// Goes on to the next piece. Returns whether there was one.
     #[inline]
     pub fn advance(&mut self) -> bool
         ensures { Advances self.old result self.new }

@@ -11,7 +11,7 @@ use Rattle.agc_text.specs.declared.input.TheConstants.{MOST_BYTES}
 use Rattle.agc_text.specs.Input.{ReadsAll, most_at_once}
 use Rattle.agc_text.specs.Script.{IsFirstRefused}
 
--- why these lines are no script, want of memory aside
+-- why these lines are no script, unless memory runs out
 abbrev pub RefusesScript : List (List ℕ) → ScriptFault → Type 0
 RefusesScript ls NoMemory = Unit {0}
 RefusesScript ls (Line n) = IsFirstRefused ls n

@@ -1,4 +1,4 @@
--- What was read of a reader.
+-- Reading an input to its end.
 use Rattle.std.specs.Prelude.{◌≤◌, List, ℕ, Option, length}
 use Rattle.std.specs.Io.KnownBytes.{Consumes, IsAtEnd}
 use Rattle.agc_text.specs.declared.input.TheConstants.{MOST_BYTES}

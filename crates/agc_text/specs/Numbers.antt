@@ -1,7 +1,7 @@
 -- Numbers, their ranges and their digits.
 use Rattle.std.specs.Prelude.{ℕ, zero, suc, ◌+◌, ◌/◌, ◌%◌, ◌<◌, List, [], ◌∷◌, ◌++◌}
 
--- so many octal digits, leading zeros among them
+-- a number in this many octal digits, with leading zeros
 abbrev pub octal : ℕ → ℕ → List ℕ
 octal zero n = []
 octal (suc k) n = octal k (n / 8) ++ (48 + n % 8) ∷ []

@@ -74,7 +74,7 @@ group_of s = octal_one_of s >>= within 1 6
 unfoldable pub place_of : List ℕ → Option ℕ
 place_of s = octal_one_of s >>= within 1 6
 
--- what stands before the first such byte, and what stands after it
+-- the text before the first such byte, and the text after it; None if there is no such byte
 abbrev pub cut : ℕ → List ℕ → Option (List ℕ × List ℕ)
 cut mark [] = None
 cut mark (c ∷ cs) = if c == mark then Some ([], cs) else (cut mark cs >>= λ p. Some (c ∷ p.0, p.1))

@@ -41,7 +41,7 @@ abbrev pub end_text : Option Alarm → List ℕ
 end_text None = []
 end_text (Some alarm) = 32 ∷ alarm_text alarm
 
--- what was replied, and in a tick what fired
+-- the text of a reply; for a tick, with the tasks that fired
 abbrev pub reply_text : List Task → Reply → List ℕ
 reply_text fired (Established number) = codes "job " ++ decimal number
 reply_text fired (Left runner) = codes "left " ++ runner_text runner

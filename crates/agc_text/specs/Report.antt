@@ -12,7 +12,7 @@ use Rattle.agc_text.specs.declared.reporting.ReportLine.TheVariants.{Phase, Fail
 use Rattle.agc_text.specs.declared.reporting.ReportLine.TheVariants.{Restarts}
 use Rattle.agc_text.specs.Replies.{words_text}
 
--- so many words, from this place on
+-- `count` words, from a place on
 abbrev pub words_at : ℕ → ℕ → List ℕ → List ℕ
 words_at place count words = take count (drop place words)
 
@@ -47,7 +47,7 @@ line_text words totals Restarts = codes "RESTARTS" ++ count_text totals.restarts
 abbrev pub sets_count_text : ℕ → List ℕ
 sets_count_text sets = if sets == 7 then [] else (codes "SETS " ++ decimal sets ++ 10 ∷ [])
 
--- the lines of so many core sets, from 0
+-- the lines of this many core sets, from 0
 unfoldable pub sets_text : ℕ → List ℕ → List ℕ
 sets_text sets words = flat_map (set_line words) (range_with_len 0 sets)
 
@@ -59,7 +59,7 @@ lines = Vac ∷ Newjob ∷ Time3 ∷ Lst1 ∷ Lst2 ∷ Phase ∷ Failreg ∷ Ser
 unfoldable pub lines_text : List ℕ → Totals → List ℕ
 lines_text words totals = flat_map (λ line. line_text words totals line ++ 10 ∷ []) lines
 
--- the whole report of so many core sets
+-- the whole report of this many core sets
 abbrev pub report_text : ℕ → List ℕ → Totals → List ℕ
 report_text sets words totals =
     sets_count_text sets ++ (sets_text sets words ++ lines_text words totals)

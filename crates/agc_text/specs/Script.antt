@@ -18,7 +18,7 @@ lines_of (c ∷ cs) = if c == 10 then [] ∷ lines_of cs else put c (lines_of cs
 abbrev pub IsLine : List ℕ → Type 0
 IsLine l = (r : Request) × IsRequest r × (l ≡ line_of r)
 
--- of these lines the one with this number, from 1, is the first that is no request
+-- the line with this number, from 1, is the first that is no request
 abbrev pub IsFirstRefused : List (List ℕ) → ℕ → Type 0
 IsFirstRefused [] n = ⊥
 IsFirstRefused (l ∷ ls) zero = ⊥

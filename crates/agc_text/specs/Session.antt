@@ -1,4 +1,4 @@
--- What a machine answers to a request.
+-- The line of a machine's answer to a request.
 use Rattle.std.specs.Prelude.{ℕ, List, [], ◌∷◌, ◌++◌}
 use Rattle.agc_plan.specs.declared.request.Request.{Request}
 use Rattle.agc_machine.specs.Machines.{Machined, answer_of, fired_of}

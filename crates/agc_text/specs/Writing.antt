@@ -1,4 +1,4 @@
--- What a call did to a writer.
+-- The bytes that a call adds to a writer.
 use Rattle.std.specs.Prelude.{◌≡◌, ◌≢◌, List, [], ℕ, ◌++◌, Option, Result, Ok, Err}
 use Rattle.std.specs.Io.KnownBytes.{Appends}
 

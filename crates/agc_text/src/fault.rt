@@ -5,7 +5,7 @@ ghost use Rattle.agc_text.specs.declared.fault.ReadFault.TheVariants.{NoMemory a
 use std::alloc::{AllocError, AllocFailed};
 use std::fmt;
 
-/// A write failed, or took nothing of what was left. Source: profile.
+/// A write failed, or took nothing of what was left.
 #[derive(Clone, Copy, PartialEq, Eq, Debug)]
 pub struct Output;
 
@@ -21,7 +21,7 @@ impl fmt::Display for Output {
 
 impl std::error::Error for Output {}
 
-/// Why a script is refused. Source: profile.
+/// Why a script is refused.
 #[derive(Clone, Copy, PartialEq, Eq, Debug)]
 pub enum ScriptFault {
     NoMemory,
@@ -60,7 +60,7 @@ impl fmt::Display for ScriptFault {
 
 impl std::error::Error for ScriptFault {}
 
-/// Why an input could not be read. Source: profile.
+/// Why an input could not be read.
 #[derive(Clone, Copy, PartialEq, Eq, Debug)]
 pub enum ReadFault {
     NoMemory,

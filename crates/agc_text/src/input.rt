@@ -11,7 +11,7 @@ use std::alloc::Global;
 use std::io;
 use std::io::Read;
 
-/// How many bytes an input may have. Source: profile.
+/// How many bytes an input may have.
 pub const MOST_BYTES: usize = 1_048_576;
 
 /// Bytes as a text.
@@ -25,7 +25,7 @@ fn text_of(bytes: Vec<u8>) -> Result<String, ReadFault>
     }
 }
 
-/// How many reads of the input were made: `one` makes each of them.
+/// Counts the reads of the input: only `one` makes any.
 #[derive(Drop)]
 struct Reads {
     made: u32,
@@ -78,7 +78,7 @@ fn read_bytes<R: Read>(
     unreachable!()
 }
 
-/// The whole input as a text, read to its end by at most 1,048,577 reads. Source: profile.
+/// The whole input as a text, read to its end by at most 1,048,577 reads.
 ///
 /// # Errors
 ///

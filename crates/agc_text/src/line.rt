@@ -11,8 +11,8 @@ ghost use Rattle.agc_text.specs.Reading.{bare_request, request_of, action_of};
 use crate::numbers::{address, delay, group, phase, place, priority, word};
 use agc_plan::{Action, Delay, Entry, Priority, Request, Task};
 
-/// What stands before the first space, and what after it.
-fn parted(text: &str) -> Option<(&str, &str)>
+/// The text before the first space, and the text after it.
+fn split_at_space(text: &str) -> Option<(&str, &str)>
     ensures { option_map (λ x. (x.0.now, x.1.now)) result ≡ cut 32 text.now }
 {
     text.split_once(' ')
@@ -20,11 +20,11 @@ fn parted(text: &str) -> Option<(&str, &str)>
 
 /// `P A W`
 #[tactic(auto, unfolding(crate::specs::Reading::established_of))]
-fn established(text: &str) -> Option<(Priority, Entry)>
+fn job_operands(text: &str) -> Option<(Priority, Entry)>
     ensures { result ≡ established_of text.now }
 {
-    let (priority_text, rest) = parted(text)?;
-    let (address_text, bank_text) = parted(rest)?;
+    let (priority_text, rest) = split_at_space(text)?;
+    let (address_text, bank_text) = split_at_space(rest)?;
     match (
         priority(priority_text),
         address(address_text),
@@ -37,11 +37,11 @@ fn established(text: &str) -> Option<(Priority, Entry)>
 
 /// `D A W`
 #[tactic(auto, unfolding(crate::specs::Reading::listed_of))]
-fn listed(text: &str) -> Option<(Delay, Task)>
+fn task_operands(text: &str) -> Option<(Delay, Task)>
     ensures { result ≡ listed_of text.now }
 {
-    let (delay_text, rest) = parted(text)?;
-    let (address_text, bank_text) = parted(rest)?;
+    let (delay_text, rest) = split_at_space(text)?;
+    let (address_text, bank_text) = split_at_space(rest)?;
     match (delay(delay_text), address(address_text), word(bank_text)) {
         (Some(delay), Some(at), Some(bank)) => Some((delay, Task { at, bank })),
         _ => None,
@@ -50,10 +50,10 @@ fn listed(text: &str) -> Option<(Delay, Task)>
 
 /// `K W`
 #[tactic(auto, unfolding(crate::specs::Reading::stored_of))]
-fn stored(text: &str) -> Option<Request>
+fn store_request(text: &str) -> Option<Request>
     ensures { result ≡ stored_of text.now }
 {
-    let (place_text, word_text) = parted(text)?;
+    let (place_text, word_text) = split_at_space(text)?;
     match (place(place_text), word(word_text)) {
         (Some(place), Some(word)) => Some(Request::Store(place, word)),
         _ => None,
@@ -62,10 +62,10 @@ fn stored(text: &str) -> Option<Request>
 
 /// `G N`
 #[tactic(auto, unfolding(crate::specs::Reading::phased_of))]
-fn phased(text: &str) -> Option<Request>
+fn phase_request(text: &str) -> Option<Request>
     ensures { result ≡ phased_of text.now }
 {
-    let (group_text, phase_text) = parted(text)?;
+    let (group_text, phase_text) = split_at_space(text)?;
     match (group(group_text), phase(phase_text)) {
         (Some(group), Some(phase)) => Some(Request::SetPhase(group, phase)),
         _ => None,
@@ -75,21 +75,21 @@ fn phased(text: &str) -> Option<Request>
 fn novac(text: &str) -> Option<Request>
     ensures { result ≡ novac_of text.now }
 {
-    let (priority, entry) = established(text)?;
+    let (priority, entry) = job_operands(text)?;
     Some(Request::Novac(priority, entry))
 }
 
 fn findvac(text: &str) -> Option<Request>
     ensures { result ≡ findvac_of text.now }
 {
-    let (priority, entry) = established(text)?;
+    let (priority, entry) = job_operands(text)?;
     Some(Request::Findvac(priority, entry))
 }
 
 fn listing(text: &str) -> Option<Request>
     ensures { result ≡ listing_of text.now }
 {
-    let (delay, task) = listed(text)?;
+    let (delay, task) = task_operands(text)?;
     Some(Request::List(delay, task))
 }
 
@@ -104,9 +104,9 @@ fn parted_line(kind: &str, rest: &str) -> Option<Request>
         "sleep" => Some(Request::Sleep(address(rest)?)),
         "rouse" => Some(Request::Rouse(address(rest)?)),
         "prio" => Some(Request::Prio(priority(rest)?)),
-        "store" => stored(rest),
+        "store" => store_request(rest),
         "list" => listing(rest),
-        "phase" => phased(rest),
+        "phase" => phase_request(rest),
         _ => None,
     }
 }
@@ -130,16 +130,15 @@ fn bare_line(kind: &str) -> Option<Request>
 fn any_line(line: &str) -> Option<Request>
     ensures { result ≡ request_of line.now }
 {
-    match parted(line) {
+    match split_at_space(line) {
         Some((kind, rest)) => parted_line(kind, rest),
         None => bare_line(line),
     }
 }
 
 /// The request that a line spells. The line comes without its end. None for every other text.
-/// Source: profile.
 pub fn parse_line(line: &str) -> Option<Request>
-    // What is read is the spelling of the request that is answered.
+    // The text is the spelling of the request that is returned.
     ensures found { IfSome result (λ r. IsRequest r × (line.now ≡ line_of r)) }
     // The spelling of a request is read.
     ensures only { (r : Request) → IsRequest r → line.now ≡ line_of r → result ≡ Some r }
@@ -147,7 +146,7 @@ pub fn parse_line(line: &str) -> Option<Request>
     any_line(line)
 }
 
-/// The action that does what a request asks. None where there is none.
+/// The action that does what a request asks. None if there is none.
 fn action_of(request: &Request) -> Option<Action>
     ensures { result ≡ action_of request.now }
 {
@@ -161,9 +160,9 @@ fn action_of(request: &Request) -> Option<Action>
 }
 
 /// The action that a text spells: `nothing`, or the line of a `novac`, `findvac`, `rouse` or
-/// `list`. None for every other text. Source: profile.
+/// `list`. None for every other text.
 pub fn parse_action(text: &str) -> Option<Action>
-    // What is read is the spelling of the action that is answered.
+    // The text is the spelling of the action that is returned.
     ensures found { IfSome result (λ a. IsAction a × (text.now ≡ action_line_of a)) }
     // The spelling of an action is read.
     ensures only { (a : Action) → IsAction a → text.now ≡ action_line_of a → result ≡ Some a }

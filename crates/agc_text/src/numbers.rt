@@ -92,7 +92,7 @@ fn decimal(text: &str) -> Option<u16>
     text.parse().ok()
 }
 
-/// The priority that two octal digits spell, 01 to 37; None for any other text. Source: profile.
+/// The priority that two octal digits spell, 01 to 37; None for any other text.
 #[tactic(auto, unfolding(crate::specs::Reading::priority_of))]
 pub fn priority(text: &str) -> Option<Priority>
     ensures { result ≡ priority_of text.now }
@@ -100,8 +100,7 @@ pub fn priority(text: &str) -> Option<Priority>
     Priority::new(octal_pair(text)?)
 }
 
-/// The address that five octal digits spell, 00001 to 37777; None for any other text. Source:
-/// profile.
+/// The address that five octal digits spell, 00001 to 37777; None for any other text.
 #[tactic(auto, unfolding(crate::specs::Reading::address_of))]
 pub fn address(text: &str) -> Option<Address>
     ensures { result ≡ address_of text.now }
@@ -109,7 +108,7 @@ pub fn address(text: &str) -> Option<Address>
     Address::new(octal_five(text)?)
 }
 
-/// The word that five octal digits spell; None for any other text. Source: profile.
+/// The word that five octal digits spell; None for any other text.
 pub fn word(text: &str) -> Option<Word>
     ensures { result ≡ octal_five_of text.now }
 {
@@ -117,7 +116,7 @@ pub fn word(text: &str) -> Option<Word>
 }
 
 /// The delay in centiseconds that decimal digits without leading zeros spell, 1 to 16250; None for
-/// any other text. Source: profile.
+/// any other text.
 #[tactic(auto, unfolding(crate::specs::Reading::delay_of))]
 pub fn delay(text: &str) -> Option<Delay>
     ensures { result ≡ delay_of text.now }
@@ -125,7 +124,7 @@ pub fn delay(text: &str) -> Option<Delay>
     Delay::new(decimal(text)?)
 }
 
-/// The restart group that one octal digit spells, 1 to 6; None for any other text. Source: profile.
+/// The restart group that one octal digit spells, 1 to 6; None for any other text.
 #[tactic(auto, unfolding(crate::specs::Reading::group_of))]
 pub fn group(text: &str) -> Option<Group>
     ensures { result ≡ group_of text.now }
@@ -133,8 +132,7 @@ pub fn group(text: &str) -> Option<Group>
     Group::new(octal_one(text)?)
 }
 
-/// The place of a work word that one octal digit spells, 1 to 6; None for any other text. Source:
-/// profile.
+/// The place of a work word that one octal digit spells, 1 to 6; None for any other text.
 #[tactic(auto, unfolding(crate::specs::Reading::place_of))]
 pub fn place(text: &str) -> Option<Place>
     ensures { result ≡ place_of text.now }
@@ -143,7 +141,6 @@ pub fn place(text: &str) -> Option<Place>
 }
 
 /// The phase that decimal digits without leading zeros spell, 0 to 127; None for any other text.
-/// Source: profile.
 #[tactic(auto, unfolding(crate::specs::Reading::phase_of))]
 pub fn phase(text: &str) -> Option<Phase>
     ensures { result ≡ phase_of text.now }

@@ -1,4 +1,4 @@
-//! Numbers as text, at the end of a text of at most so many bytes.
+//! Numbers as text, at the end of a text of bounded length.
 ghost use Rattle.std.specs.Prelude.{◌≡◌, ◌+◌, ◌*◌, ◌%◌, ◌<◌, ◌≤◌, ◌^◌, [], ◌∷◌, ◌++◌, length};
 ghost use Rattle.std.specs.Fmt.{decimal};
 ghost use Rattle.agc_text.specs.Numbers.{octal};
@@ -24,7 +24,7 @@ pub(crate) fn octal_digit(number: u16) -> u8
     b'0' + (number % 8) as u8
 }
 
-/// Appends the last octal digit of a number. Source: profile.
+/// Appends the last octal digit of a number.
 pub fn add_octal_digit<const N: usize>(text: &mut ArrayString<N>, number: u16)
     requires { length text.old.bytes < N }
     ensures text { text.new.bytes ≡ text.old.bytes ++ (48 + number % 8) ∷ [] }
@@ -45,7 +45,7 @@ fn add_digits(digits: &mut ArrayString<20>, number: u64)
     add_digit(digits, (number % 10) as u8);
 }
 
-/// Appends a number in decimal, of at most twenty digits. Source: profile.
+/// Appends a number in decimal, of at most twenty digits.
 #[tactic(auto, using(crate::proofs::Digits::decimal_short))]
 pub fn add_number<const N: usize>(text: &mut ArrayString<N>, number: u64)
     requires { length text.old.bytes + 20 ≤ N }
@@ -57,7 +57,7 @@ pub fn add_number<const N: usize>(text: &mut ArrayString<N>, number: u64)
     text.push_str(digits.as_str());
 }
 
-/// Appends a priority's two octal digits. Source: profile.
+/// Appends a priority's two octal digits.
 pub fn add_priority<const N: usize>(text: &mut ArrayString<N>, priority: u16)
     requires { length text.old.bytes + 2 ≤ N }
     ensures text { text.new.bytes ≡ text.old.bytes ++ octal 2 priority }
@@ -67,7 +67,7 @@ pub fn add_priority<const N: usize>(text: &mut ArrayString<N>, priority: u16)
     add_octal_digit(text, priority);
 }
 
-/// Appends a word's five octal digits. Source: profile.
+/// Appends a word's five octal digits.
 pub fn add_word<const N: usize>(text: &mut ArrayString<N>, word: u16)
     requires { length text.old.bytes + 5 ≤ N }
     ensures text { text.new.bytes ≡ text.old.bytes ++ octal 5 word }

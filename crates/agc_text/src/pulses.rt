@@ -32,11 +32,11 @@ fn put_counts<W: Write>(name: &str, counts: &[u64; 3], writer: &mut W) -> Result
 
 /// Writes what became of pulses: a line of how many were posted, one of how many of these were
 /// applied, and one of how many are owed, each with the timer's, the keyboard's and the radar's.
-/// The writer is not flushed. Source: profile.
+/// The writer is not flushed.
 ///
 /// # Errors
 ///
-/// Where a write fails, or takes nothing of what is left. A front of the lines was then written.
+/// If a write fails, or takes nothing of what is left. A front of the lines was then written.
 pub fn report_pulses<W: Write>(
     posted: &[u64; 3],
     applied: &[u64; 3],

@@ -182,7 +182,7 @@ fn fill_tick(line: &mut ArrayVec<u8, 128>, fired: &Fired, alarm: Option<Alarm>)
 ///
 /// # Errors
 ///
-/// Where a write fails.
+/// If a write fails.
 #[inline(never)]
 fn put_tick<W: Write>(writer: &mut W, fired: &Fired, alarm: Option<Alarm>) -> Result<(), Output>
     ensures { Writes (W.contents writer.old) (W.contents writer.new)
@@ -227,11 +227,11 @@ fn reply_line(reply: &Reply) -> Option<&'static str>
     }
 }
 
-/// Writes the line of a reply, of a tick with what fired. Source: profile.
+/// Writes the line of a reply, of a tick with what fired.
 ///
 /// # Errors
 ///
-/// Where a write fails.
+/// If a write fails.
 pub fn put_reply<W: Write>(writer: &mut W, reply: Reply, fired: &Fired) -> Result<(), Output>
     ensures { Writes (W.contents writer.old) (W.contents writer.new)
         (reply_text fired.now reply ++ 10 ∷ []) result }
@@ -246,7 +246,7 @@ pub fn put_reply<W: Write>(writer: &mut W, reply: Reply, fired: &Fired) -> Resul
 ///
 /// # Errors
 ///
-/// Where a write fails.
+/// If a write fails.
 pub(crate) fn put_refusal<W: Write>(writer: &mut W, refusal: Refusal) -> Result<(), Output>
     ensures { Writes (W.contents writer.old) (W.contents writer.new)
         (refusal_text refusal ++ 10 ∷ []) result }
@@ -268,7 +268,7 @@ fn fill_line(line: &mut ArrayVec<u8, 128>, answer: &Result<Reply, Refusal>, fire
     }
 }
 
-/// An answer as a text, of a tick with what fired, without a line end. Source: profile.
+/// An answer as a text, of a tick with what fired, without a line end.
 pub fn answer_text(answer: &Result<Reply, Refusal>, fired: &Fired) -> ArrayVec<u8, 128>
     ensures { result.items ≡ answer_text fired.now answer.now }
 {

@@ -43,7 +43,7 @@ const REPORT_LINES: [ReportLine; 10] = [
     ReportLine::Restarts,
 ];
 
-/// So many words, from this place on.
+/// `count` words, from a place on.
 fn words_at(words: &[Word], place: usize, count: usize) -> &[Word]
     requires { place + count ≤ length words.now }
     ensures words { result.now ≡ words_at place count words.now }
@@ -89,7 +89,7 @@ fn put_set<W: Write>(words: &[Word], set: usize, writer: &mut W) -> Result<(), O
     put(writer, set_line(words, set).as_bytes())
 }
 
-/// Writes the lines of so many core sets.
+/// Writes the lines of this many core sets.
 fn put_sets<W: Write>(sets: usize, words: &[Word], writer: &mut W) -> Result<(), Output>
     requires all { length words.now ≡ 144 }
     requires sets { sets ≤ 8 }
@@ -210,15 +210,14 @@ fn sets_count_line(sets: Sets) -> &'static str
     }
 }
 
-/// Writes the report of a machine's words and totals, of so many core sets: a line for each core
+/// Writes the report of a machine's words and totals, of this many core sets: a line for each core
 /// set, the VAC areas' use words, NEWJOB, TIME3, LST1, LST2, the phase words, FAILREG, and the
 /// counts. With eight sets they come after a line `SETS 8`. A set whose PRIORITY is 77777 is
 /// written as `FREE`. Words are five octal digits, counts are decimal. The writer is not flushed.
-/// Source: profile.
 ///
 /// # Errors
 ///
-/// Where a write fails, or takes nothing of what is left. A front of the report was then written.
+/// If a write fails, or takes nothing of what is left. A front of the report was then written.
 pub fn report<W: Write>(
     sets: Sets,
     words: &[Word; 144],

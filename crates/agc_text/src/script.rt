@@ -23,7 +23,6 @@ fn first_line(text: &str) -> (&str, &str)
 }
 
 /// The requests of a script, in order: a text of lines, each ended by LF, which the last may lack.
-/// Source: profile.
 ///
 /// # Errors
 ///

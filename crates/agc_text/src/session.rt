@@ -14,7 +14,7 @@ use std::io::Write;
 ///
 /// # Errors
 ///
-/// Where a write fails.
+/// If a write fails.
 pub fn write_answer_to<W: Write>(
     machine: &mut Machine,
     request: &Request,

@@ -8,7 +8,7 @@ use std::io::Write;
 ///
 /// # Errors
 ///
-/// Where a write fails, or takes nothing of what is left. A front of the bytes was then written.
+/// If a write fails, or takes nothing of what is left. A front of the bytes was then written.
 #[inline(never)]
 fn put_by_parts<W: Write>(writer: &mut W, bytes: &[u8]) -> Result<(), Output>
     ensures { Writes (W.contents writer.old) (W.contents writer.new) bytes.now result }
@@ -24,12 +24,11 @@ fn put_by_parts<W: Write>(writer: &mut W, bytes: &[u8]) -> Result<(), Output>
     Ok(())
 }
 
-/// Writes all bytes: by one write, which mostly takes them all, and what it left by others. Source:
-/// profile.
+/// Writes all bytes: by one write, which mostly takes them all, and what it left by others.
 ///
 /// # Errors
 ///
-/// Where a write fails, or takes nothing of what is left. A front of the bytes was then written.
+/// If a write fails, or takes nothing of what is left. A front of the bytes was then written.
 pub fn put<W: Write>(writer: &mut W, bytes: &[u8]) -> Result<(), Output>
     ensures { Writes (W.contents writer.old) (W.contents writer.new) bytes.now result }
 {

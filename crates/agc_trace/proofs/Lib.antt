@@ -1,4 +1,3 @@
-pub mod Plain
 mod Fronts
 mod Runners
 mod Still

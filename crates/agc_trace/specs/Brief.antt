@@ -27,7 +27,7 @@ quiet_tick None fired = if length fired == 0 then Some Tick else None
 abbrev pub is_running : Scene → ℕ → Bool
 is_running scene number = elim scene.running [ None ↦ false | Some runner ↦ runner == number ]
 
--- whether it has this priority
+-- whether the job in a core set has this number and priority
 abbrev pub is_of_priority : ℕ → ℕ → Option Seat → Bool
 is_of_priority number priority None = false
 is_of_priority number priority (Some seat) = (seat.number == number) && (seat.priority == priority)
@@ -54,13 +54,13 @@ quiet_reply before asked reply.NoSleeper fired = Some NoSleeper
 quiet_reply before asked reply.NoJob fired = Some NoJob
 quiet_reply before asked other fired = None
 
--- and a refusal always does
+-- whether an answer is quiet; a refusal always is
 abbrev pub quiet_answer : Scene → Request → Result Reply Refusal → List Task → Option Quiet
 quiet_answer before asked (Err refusal.Spent) fired = Some Spent
 quiet_answer before asked (Err refusal.LogFull) fired = Some LogFull
 quiet_answer before asked (Ok reply) fired = quiet_reply before asked reply fired
 
--- so of an event, before which this was the scene
+-- whether an event is quiet, given the scene before it
 abbrev pub quiet_of : Scene → Event → Option Quiet
 quiet_of before event = quiet_answer before event.request event.answer event.fired
 
@@ -69,7 +69,7 @@ abbrev pub time_of : Quiet → ℕ
 time_of Tick = 1
 time_of quiet = 0
 
--- a state so many centiseconds later, with nothing else changed: tasks are due when they were
+-- a state this many centiseconds later, with nothing else changed: tasks are due when they were
 abbrev pub later_by : ℕ → Plain → Plain
 later_by count plain =
     let agenda = plain.work.agenda in

@@ -1,2 +1,1 @@
 pub mod Brief
-pub mod Escaped

@@ -8,7 +8,7 @@ use agc_machine::Refusal;
 use agc_plan::{Alarm, Fired, JobNo, Priority, Reply, Request};
 use agc_scene::{Event, Scene};
 
-/// How a request changed nothing but the time.
+/// A kind of request after which nothing has changed but the time.
 #[derive(Clone, Copy, PartialEq, Eq)]
 pub(crate) enum Quiet {
     /// A tick in which nothing fired.
@@ -24,7 +24,7 @@ pub(crate) enum Quiet {
 }
 
 impl Quiet {
-    /// What a trace calls it.
+    /// Its name in a trace.
     pub(crate) fn words(self) -> &'static str {
         match self {
             Quiet::Tick => "tick",
@@ -103,7 +103,7 @@ fn quiet_run(before: &Scene, request: &Request, number: JobNo) -> Option<Quiet>
     }
 }
 
-/// How a reply tells that nothing changed but the time, if it does.
+/// The kind of a quiet reply; None if more than the time changed.
 fn quiet_reply(before: &Scene, event: &Event, reply: &Reply) -> Option<Quiet>
     ensures { result ≡ quiet_reply before.now event.now.request reply.now event.now.fired }
 {
@@ -116,7 +116,7 @@ fn quiet_reply(before: &Scene, event: &Event, reply: &Reply) -> Option<Quiet>
     }
 }
 
-/// How an event, before which this was the scene, changed nothing but the time, if it didn't.
+/// The kind of a quiet event, given the scene before it; None if more than the time changed.
 pub(crate) fn quiet_of(before: &Scene, event: &Event) -> Option<Quiet>
     ensures { result ≡ quiet_of before.now event.now }
 {

@@ -1,20 +1,20 @@
 // A chart as browsers open it: the events of tracks, in JSON.
 use crate::json::put_source;
-use crate::lanes::{AREAS, Held, LANES, Lanes, TASKS, is_same, lanes_of};
-use crate::names::What;
+use crate::lanes::{AREAS, LANES, Lanes, TASKS, TrackContent, is_same, lanes_of};
+use crate::names::ItemKind;
 use crate::page::Page;
 use agc_clock::Clock;
 use agc_plan::Request;
 use agc_run::Source;
 use agc_scene::{Event, Scene};
-use agc_text::Filling::{Json, Number, Octal, Priority, Seconds, Text};
-use agc_text::{Draft, alarm_code, request_text};
+use agc_text::Field::{Json, Number, Octal, Priority, Seconds, Text};
+use agc_text::{Buffer, alarm_code, request_text};
 
 /// The counters, by their numbers.
 const COUNTERS: [&str; 4] = ["core sets", "VAC areas", "tasks", "stolen percent"];
 
-/// What has been charted: what the lanes and the counters hold, and the present microsecond; and
-/// how many hundredths of the present centisecond were stolen, and how many are gone.
+/// The state of a chart: the contents of lanes and counters, the present microsecond, and how many
+/// hundredths of the present centisecond were stolen and how many have passed.
 #[derive(Drop)]
 pub(crate) struct Chart {
     lanes: Lanes,
@@ -24,10 +24,10 @@ pub(crate) struct Chart {
     gone: u64,
 }
 
-/// Adds how an event begins: of this phase, on the track of this number.
-fn begin_event(draft: &mut Draft, phase: &str, track: usize, now: u64) {
+/// Adds the front of an event of this phase, on the track of this number.
+fn begin_event(buffer: &mut Buffer, phase: &str, track: usize, now: u64) {
     let event = [Text(phase), Number(track as u64), Number(now)];
-    draft.put(",\n{\"ph\":\"{}\",\"pid\":1,\"tid\":{},\"ts\":{}", &event);
+    buffer.put(",\n{\"ph\":\"{}\",\"pid\":1,\"tid\":{},\"ts\":{}", &event);
 }
 
 /// The track of a lane; track 1 is that of alarms.
@@ -35,21 +35,21 @@ fn track_of(lane: usize) -> usize {
     lane.saturating_add(2)
 }
 
-/// What names a track, and says in which order they stand.
+/// The name of a track, and its place in the order of tracks.
 const TRACK: &str = ",
 {\"ph\":\"M\",\"pid\":1,\"tid\":{},\"ts\":0,\"name\":\"thread_name\",\
     \"args\":{\"name\":\"{} {}\"}},
 {\"ph\":\"M\",\"pid\":1,\"tid\":{},\"ts\":0,\"name\":\"thread_sort_index\",\
     \"args\":{\"sort_index\":{}}}";
 
-/// What all charts begin with: their heading, and track 1.
+/// The beginning of every chart: its heading, and track 1.
 const HEADING: &str = "{\"displayTimeUnit\":\"ms\",\"traceEvents\":[
 {\"ph\":\"M\",\"pid\":1,\"tid\":1,\"ts\":0,\"name\":\"process_name\",\"args\":{\"name\":\"{}\"}},
 {\"ph\":\"M\",\"pid\":1,\"tid\":1,\"ts\":0,\"name\":\"thread_name\",\
     \"args\":{\"name\":\"alarms\"}}";
 
-/// Adds what names a track.
-fn put_track(draft: &mut Draft, lane: usize) {
+/// Adds the name of a track.
+fn put_track(buffer: &mut Buffer, lane: usize) {
     let (kind, number) = if lane >= TASKS {
         ("task", lane.saturating_sub(TASKS).saturating_add(1))
     } else if lane >= AREAS {
@@ -59,55 +59,55 @@ fn put_track(draft: &mut Draft, lane: usize) {
     };
     let track = Number(track_of(lane) as u64);
     let number = Number(number as u64);
-    draft.put(TRACK, &[track, Text(kind), number, track, track]);
+    buffer.put(TRACK, &[track, Text(kind), number, track, track]);
 }
 
-/// How many of the lanes from one on, before another, hold something.
-fn taken(lanes: &Lanes, from: usize, to: usize) -> u64 {
+/// How many lanes hold something, from one on, up to another.
+fn count_taken(lanes: &Lanes, from: usize, to: usize) -> u64 {
     lanes.iter().take(to).skip(from).flatten().count() as u64
 }
 
 /// Adds a name, or else an address, and that a job sleeps.
-fn put_name(draft: &mut Draft, name: Option<&str>, at: u16, asleep: bool) {
+fn put_name(buffer: &mut Buffer, name: Option<&str>, at: u16, asleep: bool) {
     match name {
-        None => draft.add(Octal(at)),
-        Some(name) => draft.add(Json(name)),
+        None => buffer.add(Octal(at)),
+        Some(name) => buffer.add(Json(name)),
     }
-    draft.text(if asleep { " asleep" } else { "" });
-    draft.text("\",\"args\":{");
+    buffer.text(if asleep { " asleep" } else { "" });
+    buffer.text("\",\"args\":{");
 }
 
-/// Adds what a lane holds: its name, and what else is told of it.
-fn put_held(page: &mut Page, held: &Held) {
-    let (draft, names) = (&mut page.draft, &page.columns.names);
+/// Adds the contents of a lane: their name, and further members.
+fn put_content(page: &mut Page, held: &TrackContent) {
+    let (buffer, names) = (&mut page.buffer, &page.columns.names);
     match *held {
-        Held::Job {
+        TrackContent::Job {
             number,
             at,
             priority,
             asleep,
         } => {
-            put_name(draft, names.of(What::Job(at)), at, asleep);
+            put_name(buffer, names.of(ItemKind::Job(at)), at, asleep);
             let rest = [Number(u64::from(number)), Octal(at), Priority(priority)];
-            draft.put("\"job\":{},\"at\":\"{}\",\"priority\":\"{}\"", &rest);
+            buffer.put("\"job\":{},\"at\":\"{}\",\"priority\":\"{}\"", &rest);
         }
-        Held::Owner { number, at } => {
-            put_name(draft, names.of(What::Job(at)), at, false);
+        TrackContent::Owner { number, at } => {
+            put_name(buffer, names.of(ItemKind::Job(at)), at, false);
             let rest = [Number(u64::from(number)), Octal(at)];
-            draft.put("\"job\":{},\"at\":\"{}\"", &rest);
+            buffer.put("\"job\":{},\"at\":\"{}\"", &rest);
         }
-        Held::Task(task, due) => {
+        TrackContent::Task(task, due) => {
             let (at, bank) = (task.at.get(), task.bank.bits());
-            put_name(draft, names.of(What::Task(task)), at, false);
+            put_name(buffer, names.of(ItemKind::Task(task)), at, false);
             let rest = [Octal(at), Octal(bank), Seconds(due)];
-            draft.put("\"at\":\"{}\",\"bank\":\"{}\",\"due\":{}", &rest);
+            buffer.put("\"at\":\"{}\",\"bank\":\"{}\",\"due\":{}", &rest);
         }
     }
-    draft.text("}}");
+    buffer.text("}}");
 }
 
 impl Chart {
-    /// Nothing has been charted yet.
+    /// A chart without events.
     pub(crate) fn new() -> Chart {
         Chart {
             lanes: [None; LANES],
@@ -118,18 +118,18 @@ impl Chart {
         }
     }
 
-    /// Adds what ends and begins where the lanes hold this from now on.
+    /// Adds the ends and beginnings of events, now that the lanes hold this.
     fn put_lanes(&mut self, page: &mut Page, lanes: &Lanes) {
         for lane in 0..LANES {
             if !is_same(&self.lanes[lane], &lanes[lane]) {
                 if self.lanes[lane].is_some() {
-                    begin_event(&mut page.draft, "E", track_of(lane), self.now);
-                    page.draft.text("}");
+                    begin_event(&mut page.buffer, "E", track_of(lane), self.now);
+                    page.buffer.text("}");
                 }
                 if let Some(held) = &lanes[lane] {
-                    begin_event(&mut page.draft, "B", track_of(lane), self.now);
-                    page.draft.text(",\"name\":\"");
-                    put_held(page, held);
+                    begin_event(&mut page.buffer, "B", track_of(lane), self.now);
+                    page.buffer.text(",\"name\":\"");
+                    put_content(page, held);
                 }
             }
             self.lanes[lane] = lanes[lane];
@@ -137,28 +137,31 @@ impl Chart {
     }
 
     /// Adds the counters that have changed.
-    fn put_counts(&mut self, draft: &mut Draft, counts: &[u64; 4]) {
+    fn put_counts(&mut self, buffer: &mut Buffer, counts: &[u64; 4]) {
         for counter in 0..4usize {
             if self.counts[counter] != counts[counter] {
-                begin_event(draft, "C", 0, self.now);
+                begin_event(buffer, "C", 0, self.now);
                 let now = [Text(COUNTERS[counter]), Number(counts[counter])];
-                draft.put(",\"name\":\"{}\",\"args\":{\"now\":{}}}", &now);
+                buffer.put(",\"name\":\"{}\",\"args\":{\"now\":{}}}", &now);
             }
         }
         self.counts = *counts;
     }
 
-    /// Adds what comes of a scene at a centisecond.
+    /// Adds the changes that a scene at a centisecond brings.
     fn put_scene(&mut self, page: &mut Page, scene: &Scene, time: u64) {
         let lanes = lanes_of(&self.lanes, scene, time);
         self.put_lanes(page, &lanes);
-        let (sets, areas) = (taken(&lanes, 0, AREAS), taken(&lanes, AREAS, TASKS));
-        let counts = [sets, areas, taken(&lanes, TASKS, LANES), self.stolen];
-        self.put_counts(&mut page.draft, &counts);
+        let (sets, areas) = (
+            count_taken(&lanes, 0, AREAS),
+            count_taken(&lanes, AREAS, TASKS),
+        );
+        let counts = [sets, areas, count_taken(&lanes, TASKS, LANES), self.stolen];
+        self.put_counts(&mut page.buffer, &counts);
     }
 
-    /// Takes note of how many hundredths of a centisecond are gone by a clock after this request:
-    /// with a tick these are those that are stolen, and before the first tick none is.
+    /// Notes how many hundredths of a centisecond have passed on a clock after this request: with a
+    /// tick they are the stolen ones; before the first tick, none.
     pub(crate) fn pass(&mut self, request: &Request, clock: &Clock) {
         if clock.time() > 0 {
             self.gone = 100_u64.saturating_sub(u64::from(clock.left()));
@@ -168,12 +171,12 @@ impl Chart {
         }
     }
 
-    /// Adds the heading, and the scene with which all begins, if it is told.
+    /// Adds the heading, and the first scene, if there is one to show.
     pub(crate) fn begin(&mut self, page: &mut Page, scene: Option<&Scene>) {
-        let title = page.columns.names.of(What::Title).unwrap_or("AGC");
-        page.draft.put(HEADING, &[Json(title)]);
+        let title = page.columns.names.of(ItemKind::Title).unwrap_or("AGC");
+        page.buffer.put(HEADING, &[Json(title)]);
         for lane in 0..LANES {
-            put_track(&mut page.draft, lane);
+            put_track(&mut page.buffer, lane);
         }
         if let Some(scene) = scene {
             self.put_scene(page, scene, 0);
@@ -182,22 +185,22 @@ impl Chart {
 
     /// Adds that an era begins with a request.
     fn put_era(&mut self, page: &mut Page, source: Source, event: &Event) {
-        begin_event(&mut page.draft, "i", 1, self.now);
-        page.draft.text(",\"s\":\"p\",\"name\":\"");
+        begin_event(&mut page.buffer, "i", 1, self.now);
+        page.buffer.text(",\"s\":\"p\",\"name\":\"");
         match event.alarm() {
-            None => page.draft.text(request_text(&event.request).as_str()),
-            Some(alarm) => page.draft.fill("alarm ", Text(alarm_code(alarm))),
+            None => page.buffer.text(request_text(&event.request).as_str()),
+            Some(alarm) => page.buffer.fill("alarm ", Text(alarm_code(alarm))),
         }
-        page.draft.put(
+        page.buffer.put(
             "\",\"args\":{\"request\":{},\"by\":",
             &[Number(event.number)],
         );
         put_source(page, source);
-        page.draft.text("}}");
+        page.buffer.text("}}");
         self.put_lanes(page, &[None; LANES]);
     }
 
-    /// Adds what comes of a request.
+    /// Adds the events of a request.
     pub(crate) fn tell(&mut self, page: &mut Page, source: Source, event: &Event) {
         let now = event.total.saturating_mul(100).saturating_add(self.gone);
         self.now = now.saturating_mul(100).max(self.now);
@@ -208,9 +211,9 @@ impl Chart {
         }
     }
 
-    /// Ends all that lanes hold, and the chart.
+    /// Ends the events of all lanes, and the chart.
     pub(crate) fn end(&mut self, page: &mut Page) {
         self.put_lanes(page, &[None; LANES]);
-        page.draft.text("\n]}\n");
+        page.buffer.text("\n]}\n");
     }
 }

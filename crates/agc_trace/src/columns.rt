@@ -1,22 +1,21 @@
-// Which columns rows have, and what is called by a name in them.
-use crate::names::{Names, What};
+// The columns of rows, and the names in them.
+use crate::names::{ItemKind, Names};
 use agc_plan::{Phase, Task};
 use agc_run::{Source, Subject};
 use agc_scenario::Scenario;
 use agc_session::{count_requests, line_name};
-use agc_text::Filling::{Number, Octal, Seconds, Text};
-use agc_text::{Draft, Filling};
+use agc_text::Field::{Number, Octal, Seconds, Text};
+use agc_text::{Buffer, Field};
 use std::alloc::{AllocError, Global};
 
 /// How many letters of a name are shown at most.
 const MOST_LETTERS: usize = 24;
 
-/// How wide the column is that says who asks, unless a name in it is longer.
+/// The width of the column that says who asks, unless a name in it is longer.
 const SOURCE_WIDTH: usize = 9;
 
-/// The columns of rows: how wide the one is that says who asks, where it is there; whether times
-/// are in seconds; whether each row is followed by its tables; and the names that are shown.
-/// Source: profile.
+/// The columns of rows: the width of the one that says who asks, if there is one; whether times are
+/// in seconds; whether each row is followed by its tables; and the names that are shown.
 #[derive(Drop)]
 pub struct Columns {
     source: Option<usize>,
@@ -29,7 +28,7 @@ pub struct Columns {
 fn source_width(names: &Names, events: usize) -> usize {
     let mut width = SOURCE_WIDTH;
     for event in 0..events {
-        let letters = match names.of(What::Event(event)) {
+        let letters = match names.of(ItemKind::Event(event)) {
             None if event < 999 => SOURCE_WIDTH,
             None => SOURCE_WIDTH + 1,
             Some(name) => name.chars().count().min(MOST_LETTERS),
@@ -40,7 +39,7 @@ fn source_width(names: &Names, events: usize) -> usize {
 }
 
 impl Columns {
-    /// The columns of a bench or script; one of them says who asks, or none does. Source: profile.
+    /// The columns of a bench or script; one of them says who asks, or none does.
     pub fn of_bench(alloc: Global, has_sources: bool) -> Columns {
         Columns {
             source: if has_sources {
@@ -55,7 +54,7 @@ impl Columns {
     }
 
     /// The columns for playing; on a terminal each row is followed by its tables, each with its
-    /// name. Source: profile.
+    /// name.
     pub fn of_play(alloc: Global, folds: bool) -> Columns {
         Columns {
             source: None,
@@ -89,7 +88,7 @@ impl Columns {
         }
     }
 
-    /// How wide a column in front of the tables is, from 0, if it is there.
+    /// The width of a column in front of the tables, counted from 0, if there is one.
     pub(crate) fn width(&self, column: usize) -> Option<usize> {
         match column {
             0..=2 => Some(8),
@@ -98,7 +97,7 @@ impl Columns {
         }
     }
 
-    /// How wide the columns before the scene are, without the last two blanks.
+    /// The width of the columns in front of the tables, without the last two blanks.
     pub(crate) fn front_width(&self) -> usize {
         match self.source {
             None => 82,
@@ -106,34 +105,34 @@ impl Columns {
         }
     }
 
-    /// What the event that asks is called.
+    /// The name of the event that makes a request.
     pub(crate) fn event(&self, source: Source) -> Option<&str> {
         match source {
-            Source::Time(agc_clock::Source::Event(event)) => self.names.of(What::Event(event)),
+            Source::Time(agc_clock::Source::Event(event)) => self.names.of(ItemKind::Event(event)),
             _ => None,
         }
     }
 
     /// Adds who asks: an event by its name, or else by its number from 1.
-    pub(crate) fn put_source(&self, draft: &mut Draft, source: Source) {
+    pub(crate) fn put_source(&self, buffer: &mut Buffer, source: Source) {
         match source {
-            Source::Bench(agc_session::Source::Script) => draft.text("script"),
+            Source::Bench(agc_session::Source::Script) => buffer.text("script"),
             Source::Bench(agc_session::Source::Worker(number)) => {
-                draft.fill("worker ", Number(number));
+                buffer.fill("worker ", Number(number));
             }
-            Source::Bench(agc_session::Source::Pulse(line)) => draft.text(line_name(line)),
-            Source::Time(agc_clock::Source::Clock) => draft.text("clock"),
+            Source::Bench(agc_session::Source::Pulse(line)) => buffer.text(line_name(line)),
+            Source::Time(agc_clock::Source::Clock) => buffer.text("clock"),
             Source::Time(agc_clock::Source::Event(event)) => {
-                match self.names.of(What::Event(event)) {
-                    None => draft.fill("event ", Number(event.saturating_add(1) as u64)),
-                    Some(name) => put_joined(draft, name),
+                match self.names.of(ItemKind::Event(event)) {
+                    None => buffer.fill("event ", Number(event.saturating_add(1) as u64)),
+                    Some(name) => put_joined(buffer, name),
                 }
             }
         }
     }
 
-    /// A time, which is so many ticks.
-    pub(crate) fn time(&self, ticks: u64) -> Filling<'static> {
+    /// A number of ticks, as a time.
+    pub(crate) fn time(&self, ticks: u64) -> Field<'static> {
         if self.has_seconds {
             Seconds(ticks)
         } else {
@@ -141,47 +140,47 @@ impl Columns {
         }
     }
 
-    /// Adds what this is called to a cell, behind a colon, if it has a name.
-    pub(crate) fn put_name(&self, draft: &mut Draft, what: What) {
+    /// Adds a thing's name to a cell, after a colon, if it has one.
+    pub(crate) fn put_name(&self, buffer: &mut Buffer, what: ItemKind) {
         if let Some(name) = self.names.of(what) {
-            draft.text(":");
-            put_joined(draft, name);
+            buffer.text(":");
+            put_joined(buffer, name);
         }
     }
 
     /// Adds where a job is: its name, if it has one, and its address.
-    pub(crate) fn put_place(&self, draft: &mut Draft, at: u16) {
-        match self.names.of(What::Job(at)) {
-            None => draft.add(Octal(at)),
-            Some(name) => draft.put("{} ({})", &[Text(name), Octal(at)]),
+    pub(crate) fn put_place(&self, buffer: &mut Buffer, at: u16) {
+        match self.names.of(ItemKind::Job(at)) {
+            None => buffer.add(Octal(at)),
+            Some(name) => buffer.put("{} ({})", &[Text(name), Octal(at)]),
         }
     }
 
     /// Adds a task: its name, if it has one, its address and its bank.
-    pub(crate) fn put_task(&self, draft: &mut Draft, task: Task) {
+    pub(crate) fn put_task(&self, buffer: &mut Buffer, task: Task) {
         let (at, bank) = (task.at.get(), task.bank.bits());
-        match self.names.of(What::Task(task)) {
-            None => draft.put("{}/{}", &[Octal(at), Octal(bank)]),
-            Some(name) => draft.put("{} ({}/{})", &[Text(name), Octal(at), Octal(bank)]),
+        match self.names.of(ItemKind::Task(task)) {
+            None => buffer.put("{}/{}", &[Octal(at), Octal(bank)]),
+            Some(name) => buffer.put("{} ({}/{})", &[Text(name), Octal(at), Octal(bank)]),
         }
     }
 
     /// Adds the phases of a scene, each with its name, if it has one.
-    pub(crate) fn put_phases(&self, draft: &mut Draft, phases: &[Phase]) {
-        draft.text("        restart by phases");
+    pub(crate) fn put_phases(&self, buffer: &mut Buffer, phases: &[Phase]) {
+        buffer.text("        restart by phases");
         for (k, phase) in phases.iter().enumerate() {
-            draft.fill(" ", Number(u64::from(phase.get())));
-            if let Some(name) = self.names.of(What::Phase(k.saturating_add(1), *phase)) {
-                draft.put(" ({})", &[Text(name)]);
+            buffer.fill(" ", Number(u64::from(phase.get())));
+            if let Some(name) = self.names.of(ItemKind::Phase(k.saturating_add(1), *phase)) {
+                buffer.put(" ({})", &[Text(name)]);
             }
         }
     }
 }
 
-/// Adds a name to a cell, at most so many letters of it, without blanks.
-fn put_joined(draft: &mut Draft, name: &str) {
+/// Adds a name to a cell, at most this many letters of it, without blanks.
+fn put_joined(buffer: &mut Buffer, name: &str) {
     for letter in name.chars().take(MOST_LETTERS) {
         let letter = if letter == ' ' { '_' } else { letter };
-        draft.text(letter.encode_utf8(&mut [0; 4]));
+        buffer.text(letter.encode_utf8(&mut [0; 4]));
     }
 }

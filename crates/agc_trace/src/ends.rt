@@ -1,24 +1,24 @@
-// What a trace says before the first request, about power-up, and after the last: how many requests
-// were refused, and which pulses asked for nothing.
+// The first and the last lines of a trace: before the first request, power-up; after the last one,
+// how many requests were refused, and which pulses make no requests.
 use crate::page::Page;
 use agc_document::Bench;
 use agc_phase::recover;
 use agc_scene::Scene;
 use agc_session::{asks_nothing, line_name};
-use agc_text::Draft;
-use agc_text::Filling::{Number, Octal, Text};
+use agc_text::Buffer;
+use agc_text::Field::{Number, Octal, Text};
 use agc_word::Word;
 
-/// Adds what is wrong with the two words of a group, if anything is.
-fn put_pair(draft: &mut Draft, group: u64, minus: Word, phase: Word) {
+/// Adds what is wrong with a group's two words, if anything is.
+fn put_pair(buffer: &mut Buffer, group: u64, minus: Word, phase: Word) {
     let bits = phase.bits();
     if minus != phase.neg() {
-        draft.put(
+        buffer.put(
             "          group {}: {} is not the complement of {}\n",
             &[Number(group), Octal(minus.bits()), Octal(bits)],
         );
     } else if bits > 127 {
-        draft.put(
+        buffer.put(
             "          group {}: phase {} is above 127\n",
             &[Number(group), Number(u64::from(bits))],
         );
@@ -26,15 +26,15 @@ fn put_pair(draft: &mut Draft, group: u64, minus: Word, phase: Word) {
 }
 
 /// Adds why power-up was a fresh start.
-fn put_broken(draft: &mut Draft, words: &[Word; 12]) {
-    draft.text("        alarm 1107: no phase can be trusted, and nothing begins again\n");
+fn put_broken(buffer: &mut Buffer, words: &[Word; 12]) {
+    buffer.text("        alarm 1107: no phase can be trusted, and nothing begins again\n");
     for group in 0..6usize {
         let (minus, phase) = (words[2 * group], words[2 * group + 1]);
-        put_pair(draft, group as u64 + 1, minus, phase);
+        put_pair(buffer, group as u64 + 1, minus, phase);
     }
 }
 
-/// What is answered to power-up with these phase words.
+/// The reply to power-up with these phase words.
 pub(crate) fn power_reply(words: &[Word; 12]) -> &'static str {
     if recover(words).is_some() {
         "restarted"
@@ -43,56 +43,56 @@ pub(crate) fn power_reply(words: &[Word; 12]) -> &'static str {
     }
 }
 
-/// Adds what came of power-up with these phase words: the scene with which the first era begins.
+/// Adds the outcome of power-up with these phase words: the scene with which the first era begins.
 pub(crate) fn put_power(page: &mut Page, words: &[Word; 12], scene: &Scene) {
     page.put_power(power_reply(words), scene);
     if recover(words).is_none() {
-        put_broken(&mut page.draft, words);
+        put_broken(&mut page.buffer, words);
     }
-    page.columns.put_phases(&mut page.draft, &scene.phases());
-    page.draft.text("\n");
+    page.columns.put_phases(&mut page.buffer, &scene.phases());
+    page.buffer.text("\n");
 }
 
 /// How many requests were refused, for each reason.
 #[derive(Clone, Copy, Default)]
-pub(crate) struct Refused {
+pub(crate) struct RefusalCounts {
     pub(crate) log_full: u64,
     pub(crate) spent: u64,
 }
 
-/// What ends the name of so many things.
+/// The plural ending for a count.
 fn ending(count: u64) -> &'static str {
     if count == 1 { "" } else { "s" }
 }
 
 /// Adds how many requests the machine of a bench, or of a script, refused.
-pub(crate) fn put_refused(draft: &mut Draft, refused: Refused, bench: Option<&Bench>) {
-    let Refused { log_full, spent } = refused;
+pub(crate) fn put_refused(buffer: &mut Buffer, refused: RefusalCounts, bench: Option<&Bench>) {
+    let RefusalCounts { log_full, spent } = refused;
     let (limit, allowance) = match bench {
         None => (1000, 1_000_000),
         Some(bench) => (u64::from(bench.limit().get()), bench.allowance()),
     };
     if log_full > 0 {
         let told = [Number(log_full), Text(ending(log_full)), Number(limit)];
-        draft.put("        {} request{} refused: log full (limit {})\n", &told);
+        buffer.put("        {} request{} refused: log full (limit {})\n", &told);
     }
     if spent > 0 {
         let told = [Number(spent), Text(ending(spent)), Number(allowance)];
-        draft.put(
+        buffer.put(
             "        {} request{} refused: spent (allowance {}, all served)\n",
             &told,
         );
     }
 }
 
-/// Adds a line for each device of a bench whose pulses ask for nothing, if it sends any.
-pub(crate) fn put_idle(draft: &mut Draft, bench: &Bench) {
+/// Adds a line for each device of a bench that sends pulses which make no requests.
+pub(crate) fn put_idle(buffer: &mut Buffer, bench: &Bench) {
     for device in bench.devices() {
         let (line, pulses) = *device;
         let pulses = u64::from(pulses);
         if pulses > 0 && asks_nothing(bench, line) {
             let told = [Number(pulses), Text(line_name(line)), Text(ending(pulses))];
-            draft.put("        {} {} pulse{} asked for nothing\n", &told);
+            buffer.put("        {} {} pulse{} asked for nothing\n", &told);
         }
     }
 }

@@ -2,7 +2,7 @@
 use agc_plan::Task;
 use agc_scene::Scene;
 
-/// How many lanes there are: eight core sets, five areas and nine tasks.
+/// The number of lanes: eight core sets, five areas and nine tasks.
 pub(crate) const LANES: usize = 22;
 
 /// The first lane of an area, and the first of a task.
@@ -10,9 +10,9 @@ pub(crate) const AREAS: usize = 8;
 
 pub(crate) const TASKS: usize = 13;
 
-/// What a lane holds.
+/// The contents of a lane.
 #[derive(Clone, Copy, PartialEq, Eq)]
-pub(crate) enum Held {
+pub(crate) enum TrackContent {
     /// A job, of this number, at this address.
     Job {
         number: u16,
@@ -29,11 +29,11 @@ pub(crate) enum Held {
     Task(Task, u64),
 }
 
-/// What all lanes hold.
-pub(crate) type Lanes = [Option<Held>; LANES];
+/// The contents of all lanes.
+pub(crate) type Lanes = [Option<TrackContent>; LANES];
 
 /// Whether a lane holds the same as another.
-pub(crate) fn is_same(one: &Option<Held>, other: &Option<Held>) -> bool {
+pub(crate) fn is_same(one: &Option<TrackContent>, other: &Option<TrackContent>) -> bool {
     match (one, other) {
         (None, None) => true,
         (Some(one), Some(other)) => one == other,
@@ -41,8 +41,8 @@ pub(crate) fn is_same(one: &Option<Held>, other: &Option<Held>) -> bool {
     }
 }
 
-/// Lets a task have the lane that it had, if it had one.
-fn keep(lanes: &mut Lanes, before: &Lanes, task: Held) -> bool {
+/// Keeps a task in the lane that it had, if it had one.
+fn keep(lanes: &mut Lanes, before: &Lanes, task: TrackContent) -> bool {
     let wanted = Some(task);
     for k in TASKS..LANES {
         if lanes[k].is_none() && is_same(&before[k], &wanted) {
@@ -53,8 +53,8 @@ fn keep(lanes: &mut Lanes, before: &Lanes, task: Held) -> bool {
     false
 }
 
-/// Lets the first lane that holds no task hold this one.
-fn add(lanes: &mut Lanes, task: Held) {
+/// Puts a task into the first lane that has none.
+fn add(lanes: &mut Lanes, task: TrackContent) {
     for k in TASKS..LANES {
         if lanes[k].is_none() {
             lanes[k] = Some(task);
@@ -63,36 +63,36 @@ fn add(lanes: &mut Lanes, task: Held) {
     }
 }
 
-/// Lets lanes hold the tasks of a scene at a centisecond: those that they held before, and then the
+/// Puts the tasks of a scene at a centisecond into lanes: first those that had one, and then the
 /// others.
 fn hold_tasks(lanes: &mut Lanes, before: &Lanes, scene: &Scene, time: u64) {
     let mut kept = [false; LANES];
     for (wait, is_kept) in scene.waits().iter().zip(kept.iter_mut()) {
         let due = time.saturating_add(u64::from(wait.distance));
-        *is_kept = keep(lanes, before, Held::Task(wait.task, due));
+        *is_kept = keep(lanes, before, TrackContent::Task(wait.task, due));
     }
     for (wait, is_kept) in scene.waits().iter().zip(kept.iter()) {
         if !*is_kept {
             let due = time.saturating_add(u64::from(wait.distance));
-            add(lanes, Held::Task(wait.task, due));
+            add(lanes, TrackContent::Task(wait.task, due));
         }
     }
 }
 
-/// Lets a lane hold this.
-fn hold(lanes: &mut Lanes, k: usize, held: Held) {
+/// Changes the contents of a lane.
+fn hold(lanes: &mut Lanes, k: usize, held: TrackContent) {
     if let Some(lane) = lanes.get_mut(k) {
         *lane = Some(held);
     }
 }
 
-/// What the lanes hold in a scene at a centisecond, where they held this before.
+/// The contents of all lanes in a scene at a centisecond, given those before it.
 pub(crate) fn lanes_of(before: &Lanes, scene: &Scene, time: u64) -> Lanes {
     let mut lanes: Lanes = [None; LANES];
     for (k, seat) in scene.seats().iter().enumerate() {
         if let Some(seat) = *seat {
             let (number, at) = (seat.number, seat.at);
-            let job = Held::Job {
+            let job = TrackContent::Job {
                 number,
                 at,
                 priority: seat.priority,
@@ -101,7 +101,7 @@ pub(crate) fn lanes_of(before: &Lanes, scene: &Scene, time: u64) -> Lanes {
             hold(&mut lanes, k, job);
             if seat.area > 0 {
                 let area = usize::from(seat.area).saturating_sub(1);
-                let owner = Held::Owner { number, at };
+                let owner = TrackContent::Owner { number, at };
                 hold(&mut lanes, AREAS.saturating_add(area), owner);
             }
         }

@@ -1,11 +1,11 @@
-// What a scenario calls itself, its jobs, tasks, phases and events.
+// The names of a scenario, its jobs, tasks, phases and events.
 use agc_plan::{Phase, Task};
 use agc_scenario::Scenario;
 use std::alloc::{AllocError, Global};
 
-/// What has a name in a scenario.
+/// A thing that can have a name in a scenario.
 #[derive(Clone, Copy, PartialEq, Eq)]
-pub(crate) enum What {
+pub(crate) enum ItemKind {
     /// The scenario itself.
     Title,
     /// The jobs that are established at this address.
@@ -17,18 +17,18 @@ pub(crate) enum What {
     Event(usize),
 }
 
-/// What something is called.
+/// A thing with its name.
 #[derive(Drop)]
-struct Named {
-    what: What,
+struct NamedItem {
+    what: ItemKind,
     name: String,
 }
 
-/// What a scenario calls itself, its jobs, tasks, phases and events, in memory of its own; a bench
-/// calls nothing by a name.
+/// The names of a scenario, its jobs, tasks, phases and events, in memory of their own; a bench has
+/// none.
 #[derive(Drop)]
 pub(crate) struct Names {
-    all: Vec<Named>,
+    all: Vec<NamedItem>,
 }
 
 impl Names {
@@ -50,12 +50,12 @@ impl Names {
     /// Adds the title, and the names of jobs and events.
     fn name_timed(&mut self, alloc: Global, scenario: &Scenario) -> Result<(), AllocError> {
         let timing = scenario.timing();
-        self.name(alloc, What::Title, timing.title())?;
+        self.name(alloc, ItemKind::Title, timing.title())?;
         for job in timing.jobs() {
-            self.name(alloc, What::Job(job.at().get()), job.name())?;
+            self.name(alloc, ItemKind::Job(job.at().get()), job.name())?;
         }
         for (k, event) in timing.all_events().iter().enumerate() {
-            self.name(alloc, What::Event(k), event.name())?;
+            self.name(alloc, ItemKind::Event(k), event.name())?;
         }
         Ok(())
     }
@@ -64,29 +64,34 @@ impl Names {
     fn name_planned(&mut self, alloc: Global, scenario: &Scenario) -> Result<(), AllocError> {
         let bench = scenario.bench();
         for (row, name) in bench.rows().iter().zip(scenario.row_names().iter()) {
-            self.name(alloc, What::Task(row.0), name.as_str())?;
+            self.name(alloc, ItemKind::Task(row.0), name.as_str())?;
         }
         for (entry, name) in bench.entries().iter().zip(scenario.entry_names().iter()) {
             let group = usize::from(entry.group().get());
-            self.name(alloc, What::Phase(group, entry.phase()), name.as_str())?;
+            self.name(alloc, ItemKind::Phase(group, entry.phase()), name.as_str())?;
         }
         Ok(())
     }
 
-    /// Gives something its name, if it has one. Where there is no memory nothing is changed.
-    fn name(&mut self, alloc: Global, what: What, name: Option<&str>) -> Result<(), AllocError> {
+    /// Gives something its name, if it has one. If memory runs out, nothing is changed.
+    fn name(
+        &mut self,
+        alloc: Global,
+        what: ItemKind,
+        name: Option<&str>,
+    ) -> Result<(), AllocError> {
         let Some(name) = name else {
             return Ok(());
         };
         let name = String::from_str(alloc, name)?;
-        match self.all.push(Named { what, name }) {
+        match self.all.push(NamedItem { what, name }) {
             Ok(()) => Ok(()),
             Err(_no_memory) => Err(AllocError),
         }
     }
 
-    /// What this is called, if it has a name: the first that it was given.
-    pub(crate) fn of(&self, what: What) -> Option<&str> {
+    /// The name of a thing, if it has one: the first that it was given.
+    pub(crate) fn of(&self, what: ItemKind) -> Option<&str> {
         for named in self.all.iter() {
             if named.what == what {
                 return Some(named.name.as_str());

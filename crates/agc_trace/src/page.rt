@@ -1,26 +1,26 @@
-// What is told at once, and the rows in it.
+// A part of a trace that is written at once, with its rows.
 use crate::columns::Columns;
-use crate::names::What;
+use crate::names::ItemKind;
 use crate::row::Row;
 use agc_exec::Seat;
 use agc_run::Source;
 use agc_scene::{Event, Scene};
-use agc_text::Filling::{Bytes, Number, Octal, Priority, Text};
-use agc_text::{Draft, Output, answer_text, request_text};
+use agc_text::Field::{Bytes, Number, Octal, Priority, Text};
+use agc_text::{Buffer, Output, answer_text, request_text};
 use std::alloc::{AllocError, Global};
 use std::io::Write;
 
-/// What is told at once, the row that is being gathered, and the columns in which it will stand.
+/// A part of a trace that is written at once, the row that is being filled, and its columns.
 #[derive(Drop)]
 pub(crate) struct Page {
-    pub(crate) draft: Draft,
+    pub(crate) buffer: Buffer,
     pub(crate) row: Row,
     pub(crate) columns: Columns,
 }
 
-/// Adds what a core set holds: a job and its priority, in brackets where it sleeps, and behind `>`
-/// where NEWJOB names it.
-fn put_seat(draft: &mut Draft, columns: &Columns, named: Option<u16>, seat: Seat) {
+/// Adds the job of a core set and its priority, in brackets if it sleeps, and after `>` if NEWJOB
+/// names it.
+fn put_seat(buffer: &mut Buffer, columns: &Columns, named: Option<u16>, seat: Seat) {
     let (before, behind) = if seat.asleep {
         (" (", ")")
     } else if named == Some(seat.number) {
@@ -28,29 +28,29 @@ fn put_seat(draft: &mut Draft, columns: &Columns, named: Option<u16>, seat: Seat
     } else {
         (" ", "")
     };
-    draft.fill(before, Number(u64::from(seat.number)));
-    columns.put_name(draft, What::Job(seat.at));
-    draft.put("/{}{}", &[Priority(seat.priority), Text(behind)]);
+    buffer.fill(before, Number(u64::from(seat.number)));
+    columns.put_name(buffer, ItemKind::Job(seat.at));
+    buffer.put("/{}{}", &[Priority(seat.priority), Text(behind)]);
 }
 
-/// Adds all tasks in order, each with the centiseconds that it still has.
-fn put_waits(draft: &mut Draft, columns: &Columns, scene: &Scene) {
+/// Adds all tasks in order, each with the centiseconds that are left to it.
+fn put_waits(buffer: &mut Buffer, columns: &Columns, scene: &Scene) {
     if scene.waits().is_empty() {
-        draft.text(" -");
+        buffer.text(" -");
     }
     for wait in scene.waits() {
-        draft.fill(" ", Octal(wait.task.at.get()));
-        columns.put_name(draft, What::Task(wait.task));
-        draft.fill("+", Number(u64::from(wait.distance)));
+        buffer.fill(" ", Octal(wait.task.at.get()));
+        columns.put_name(buffer, ItemKind::Task(wait.task));
+        buffer.fill("+", Number(u64::from(wait.distance)));
     }
 }
 
 impl Page {
-    /// Nothing is told yet.
+    /// An empty page.
     pub(crate) fn new(alloc: Global, columns: Columns) -> Result<Page, AllocError> {
-        match (Draft::new(alloc), Row::new(alloc)) {
-            (Ok(draft), Ok(row)) => Ok(Page {
-                draft,
+        match (Buffer::new(alloc), Row::new(alloc)) {
+            (Ok(buffer), Ok(row)) => Ok(Page {
+                buffer,
                 row,
                 columns,
             }),
@@ -58,15 +58,15 @@ impl Page {
         }
     }
 
-    /// Writes what is told, and begins anew.
+    /// Writes the page, and empties it.
     pub(crate) fn send<W: Write>(&mut self, writer: &mut W) -> Result<(), Output> {
         self.row.text.end()?;
-        self.draft.send(writer)
+        self.buffer.send(writer)
     }
 
-    /// Adds the row that was gathered.
+    /// Adds the row that was filled.
     pub(crate) fn put_row(&mut self) {
-        self.row.put(&mut self.draft, &self.columns);
+        self.row.put(&mut self.buffer, &self.columns);
     }
 
     /// Adds the tables of a scene to the row.
@@ -78,7 +78,7 @@ impl Page {
         for seat in scene.seats() {
             match *seat {
                 None => self.row.text.text(" ."),
-                Some(seat) => put_seat(&mut self.row.text, &self.columns, scene.named(), seat),
+                Some(seat) => put_seat(&mut self.row.text, &self.columns, scene.next_job(), seat),
             }
         }
         self.row.end();
@@ -95,8 +95,8 @@ impl Page {
 
     /// Adds the title, if there is one, and the heading.
     pub(crate) fn put_heading(&mut self) {
-        if let Some(title) = self.columns.names.of(What::Title) {
-            self.draft.put("{}\n", &[Text(title)]);
+        if let Some(title) = self.columns.names.of(ItemKind::Title) {
+            self.buffer.put("{}\n", &[Text(title)]);
         }
         for name in ["no", "time", "total", "by", "request"] {
             self.row.cell(Text(name));

@@ -1,34 +1,33 @@
-// A row as it is laid out: wide, its tables beside it; or on a terminal, its tables below it.
+// The layout of a row: wide, with its tables beside it; or on a terminal, with its tables below it.
 use crate::columns::Columns;
-use agc_text::Filling::{Bytes, Text};
-use agc_text::{Draft, Filling};
+use agc_text::Field::{Bytes, Text};
+use agc_text::{Buffer, Field};
 use std::alloc::{AllocError, Global};
 
-/// How many cells a row has: its number, two times, who asks, the request and the answer, and then
-/// the tables.
+/// The number of cells of a row: its number, two times, who asks, the request and the answer, and
+/// then the tables.
 const CELLS: usize = 10;
 
-/// How wide the column of an answer is.
+/// The width of the column of answers.
 const REPLY_WIDTH: usize = 28;
 
-/// How wide the columns of the tables are: of the running job, the core sets, the areas and the
-/// tasks.
+/// The widths of the tables' columns: the running job, the core sets, the areas and the tasks.
 const TABLE_WIDTHS: [usize; 4] = [7, 56, 10, 0];
 
-/// What the tables are called where they follow a row.
+/// The names of the tables below a row.
 const NAMES: [&str; 4] = ["running", "sets", "areas", "tasks"];
 
-/// How wide a line may be to which a further table is added.
+/// The width up to which a line takes another table.
 const WIDTH: usize = 80;
 
-/// More blanks than any cell ends with.
+/// More blanks than any cell needs at its end.
 const BLANKS: [u8; 128] = [b' '; 128];
 
-/// A row: the texts of its cells, one after the other, and where each ends; and how many of them
+/// A row: the texts of its cells, one after the other, and the end of each; and how many of them
 /// are in front of the tables: six, or one.
 #[derive(Drop)]
 pub(crate) struct Row {
-    pub(crate) text: Draft,
+    pub(crate) text: Buffer,
     ends: [usize; CELLS],
     count: usize,
     front: usize,
@@ -39,17 +38,17 @@ fn letters(text: &[u8]) -> usize {
     text.iter().filter(|byte| **byte & 0xC0 != 0x80).count()
 }
 
-/// Adds blanks up to this width behind so many letters, and two more.
-fn fill(draft: &mut Draft, width: usize, letters: usize) {
+/// Adds blanks after this many letters up to a width, and two more.
+fn fill(buffer: &mut Buffer, width: usize, letters: usize) {
     let blanks = width.saturating_sub(letters).saturating_add(2);
-    draft.add(Bytes(&BLANKS[..blanks.min(BLANKS.len())]));
+    buffer.add(Bytes(&BLANKS[..blanks.min(BLANKS.len())]));
 }
 
 impl Row {
-    /// No cell yet.
+    /// A row without cells.
     pub(crate) fn new(alloc: Global) -> Result<Row, AllocError> {
         Ok(Row {
-            text: Draft::new(alloc)?,
+            text: Buffer::new(alloc)?,
             ends: [0; CELLS],
             count: 0,
             front: 0,
@@ -71,7 +70,7 @@ impl Row {
     }
 
     /// Adds a cell.
-    pub(crate) fn cell(&mut self, filling: Filling<'_>) {
+    pub(crate) fn cell(&mut self, filling: Field<'_>) {
         self.text.add(filling);
         self.end();
     }
@@ -88,15 +87,15 @@ impl Row {
 
     /// Adds the cells in front of the tables, each but the last filled up to its column's width.
     /// Returns how many letters the last one has.
-    fn put_front(&self, draft: &mut Draft, columns: &Columns) -> usize {
+    fn put_front(&self, buffer: &mut Buffer, columns: &Columns) -> usize {
         let mut last: usize = 0;
         for cell in 0..self.front {
             if let Some(width) = columns.width(cell) {
                 let text = self.text_of(cell);
-                draft.add(Bytes(text));
+                buffer.add(Bytes(text));
                 last = letters(text);
                 if cell.saturating_add(1) < self.front {
-                    fill(draft, width, last);
+                    fill(buffer, width, last);
                 }
             }
         }
@@ -104,54 +103,54 @@ impl Row {
     }
 
     /// Adds the tables, each in its column: after a longer answer in the next line.
-    fn put_wide(&self, draft: &mut Draft, columns: &Columns, last: usize) {
+    fn put_wide(&self, buffer: &mut Buffer, columns: &Columns, last: usize) {
         let whole = columns.front_width();
         if self.front == 1 {
-            fill(draft, whole, last);
+            fill(buffer, whole, last);
         } else if last <= REPLY_WIDTH {
-            fill(draft, REPLY_WIDTH, last);
+            fill(buffer, REPLY_WIDTH, last);
         } else {
-            draft.text("\n");
-            fill(draft, whole, 0);
+            buffer.text("\n");
+            fill(buffer, whole, 0);
         }
         for (k, width) in TABLE_WIDTHS.iter().enumerate() {
             let text = self.text_of(self.front.saturating_add(k));
-            draft.add(Bytes(text));
+            buffer.add(Bytes(text));
             if *width > 0 {
-                fill(draft, *width, letters(text));
+                fill(buffer, *width, letters(text));
             }
         }
-        draft.text("\n");
+        buffer.text("\n");
     }
 
     /// Adds the tables below the row, each after its name, in as few lines as have room for them.
-    fn put_folded(&self, draft: &mut Draft) {
+    fn put_folded(&self, buffer: &mut Buffer) {
         let mut length = WIDTH;
         for (k, name) in NAMES.iter().enumerate() {
             let table = self
                 .text_of(self.front.saturating_add(k))
                 .trim_ascii_start();
             let added = name.len().saturating_add(table.len()).saturating_add(3);
-            let (before, begun) = if length.saturating_add(added) > WIDTH {
+            let (before, start_picture) = if length.saturating_add(added) > WIDTH {
                 ("\n    ", 2)
             } else {
                 ("  ", length)
             };
-            draft.put("{}{} {}", &[Text(before), Text(name), Bytes(table)]);
-            length = added.saturating_add(begun);
+            buffer.put("{}{} {}", &[Text(before), Text(name), Bytes(table)]);
+            length = added.saturating_add(start_picture);
         }
-        draft.text("\n");
+        buffer.text("\n");
     }
 
-    /// Adds the row, and begins anew.
-    pub(crate) fn put(&mut self, draft: &mut Draft, columns: &Columns) {
-        let last = self.put_front(draft, columns);
+    /// Adds the row, and empties it.
+    pub(crate) fn put(&mut self, buffer: &mut Buffer, columns: &Columns) {
+        let last = self.put_front(buffer, columns);
         if !columns.folds {
-            self.put_wide(draft, columns, last);
+            self.put_wide(buffer, columns, last);
         } else if self.front < self.count {
-            self.put_folded(draft);
+            self.put_folded(buffer);
         } else {
-            draft.text("\n");
+            buffer.text("\n");
         }
         self.text.clear();
         self.count = 0;

@@ -1,36 +1,35 @@
-// A run that is traced.
+// Tracing a run.
 ghost use Rattle.std.specs.List.{fold};
-ghost use Rattle.agc_run.specs.Subjects.{asked_of, machine_of};
+ghost use Rattle.agc_run.specs.Subjects.{own_requests, machine_of};
 ghost use Rattle.agc_scene.specs.Events.{watched, watching_from};
 ghost use Rattle.agc_session.specs.Runs.{script_machine};
 ghost use Rattle.agc_session.specs.Shown.{EndsIn};
 
 use crate::columns::Columns;
 use crate::showing::{Shows, show};
-use crate::sizing::expect_counted;
-use crate::telling::{Choice, Rows};
+use crate::trace_rows::{Rows, TraceOptions};
 use agc_document::Bench;
 use agc_plan::Request;
-use agc_run::{Asks, Source, Subject, WatchedRun};
-use agc_scene::{Event, Watched};
-use agc_session::{Progress, RunFault, script_machine};
+use agc_run::{ObservedRun, PendingRequests, Source, Subject};
+use agc_scene::{Event, ObservedMachine};
+use agc_session::{Progress, RunFault, count_requests, script_machine};
 use agc_text::Output;
 use std::alloc::{AllocError, Global};
 use std::io::Write;
 
-/// A run that is told in rows: those of a bench end with what came of its pulses.
+/// A trace in rows: for a bench, the report of its pulses ends it.
 #[derive(Drop)]
-struct Told<'a> {
+struct TraceWriter<'a> {
     rows: Rows,
     bench: Option<&'a Bench>,
 }
 
-impl<'a> Shows for Told<'a> {
-    fn begin(&mut self, watched: &Watched) {
+impl<'a> Shows for TraceWriter<'a> {
+    fn begin(&mut self, watched: &ObservedMachine) {
         self.rows.begin(watched, self.bench);
     }
 
-    fn show(&mut self, run: &WatchedRun<'_>, source: Source, event: Event) {
+    fn show(&mut self, run: &ObservedRun<'_>, source: Source, event: Event) {
         self.rows.pass(&event.request, run.clock());
         self.rows.add(run.watched(), source, &event);
     }
@@ -44,68 +43,75 @@ impl<'a> Shows for Told<'a> {
     }
 }
 
-/// The rows of a bench or a scenario, of which nothing was told yet.
-fn told_of<'a>(
+/// The rows of a bench or a scenario, before the first.
+fn trace_writer_of<'a>(
     alloc: Global,
     subject: Subject<'a>,
-    choice: Choice,
-) -> Result<Told<'a>, AllocError> {
+    choice: TraceOptions,
+) -> Result<TraceWriter<'a>, AllocError> {
     let columns = Columns::of(alloc, subject)?;
     let rows = Rows::new(alloc, choice, columns)?;
     let bench = Some(subject.bench());
-    Ok(Told { rows, bench })
+    Ok(TraceWriter { rows, bench })
+}
+
+/// Announces how many requests there will be if they can be counted without a run: those of a
+/// bench.
+fn expect_counted<P: Progress>(subject: Subject<'_>, progress: &mut P) {
+    if let Subject::Bench(bench) = subject {
+        progress.expect(count_requests(bench).requests);
+    }
 }
 
 /// Writes the trace of a bench or a scenario: the heading, and what came of power-up, where a bench
 /// has phase words; then its machine is asked for its requests in order, and for each that is
 /// chosen a row is written, with the scene of its event and the account of its alarm; and last how
 /// many requests were refused, and the devices whose pulses asked for nothing. Returns the machine
-/// after the last request. The writer is not flushed. Source: profile.
+/// after the last request. The writer is not flushed.
 ///
 /// # Errors
 ///
-/// `NoMemory`, and nothing was written. `Output`, where a write failed, or took nothing of what was
+/// `NoMemory`, and nothing was written. `Output` if a write failed, or took nothing of what was
 /// left, or there was no memory for a long row.
 pub fn trace<P: Progress, W: Write>(
     alloc: Global,
     subject: Subject<'_>,
-    choice: Choice,
+    choice: TraceOptions,
     progress: &mut P,
     writer: &mut W,
-) -> Result<Watched, RunFault>
+) -> Result<ObservedMachine, RunFault>
     ensures { EndsIn
-        (fold watched (watching_from (machine_of subject.entry)) (asked_of subject.entry))
+        (fold watched (watching_from (machine_of subject.entry)) (own_requests subject.entry))
         (W.contents writer.old) (W.contents writer.new) result }
 {
     expect_counted(subject, progress);
-    let told = told_of(alloc, subject, choice)?;
+    let told = trace_writer_of(alloc, subject, choice)?;
     let run = subject.watched(alloc)?;
     show(run, told, progress, writer)
 }
 
-/// Writes the trace of a script in the same way: the machine is that of `run_script`. Source:
-/// profile.
+/// Writes the trace of a script in the same way: the machine is that of `run_script`.
 ///
 /// # Errors
 ///
-/// `NoMemory`, and nothing was written. `Output`, where a write failed, or took nothing of what was
+/// `NoMemory`, and nothing was written. `Output` if a write failed, or took nothing of what was
 /// left, or there was no memory for a long row.
 pub fn trace_script<P: Progress, W: Write>(
     alloc: Global,
     requests: &[Request],
-    choice: Choice,
+    choice: TraceOptions,
     progress: &mut P,
     writer: &mut W,
-) -> Result<Watched, RunFault>
+) -> Result<ObservedMachine, RunFault>
     ensures { EndsIn (fold watched (watching_from script_machine) requests.now)
         (W.contents writer.old) (W.contents writer.new) result }
 {
     let machine = script_machine(alloc)?;
-    let told = Told {
+    let told = TraceWriter {
         rows: Rows::new(alloc, choice, Columns::of_bench(alloc, false))?,
         bench: None,
     };
     progress.expect(requests.len() as u64);
-    let run = WatchedRun::new(machine, Asks::of_script(requests));
+    let run = ObservedRun::new(machine, PendingRequests::of_script(requests));
     show(run, told, progress, writer)
 }

@@ -1,4 +1,4 @@
--- What each call does to the words, and to the agenda that they stand for.
+-- The effect of each call on the words, and on the agenda that they stand for.
 use Rattle.std.specs.Prelude.{◌≡◌, ◌↔◌, ℕ, ◌+◌, ◌≤◌, Bool, true, false, IsTrue, List, [], Some}
 use Rattle.std.specs.Prelude.{IsSome}
 use Rattle.agc_word.specs.Layout.{Keeps, OutsideWaitlist}
@@ -61,7 +61,7 @@ pub record Dispatches (old : List ℕ) (task : Task) (new : List ℕ) : Type 0 w
   pub others : Keeps OutsideWaitlist old new
   pub words : IsTaken old new
 
--- it is answered whether a task is due now
+-- the answer is whether a task is due now
 pub record TellsDue (words : List ℕ) (answer : Bool) : Type 0 where
   pub shown : ShownAgenda words
   pub due : (agenda : Agenda) → StandsFor (waits_of words) agenda → IsTrue answer ↔ HasDue agenda

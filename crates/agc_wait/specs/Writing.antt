@@ -7,7 +7,7 @@ use Rattle.agc_plan.specs.declared.request.Task.{Task}
 use Rattle.agc_plan.specs.Tasks.{Waiting}
 use Rattle.agc_wait.specs.Table.{time3, lst1, at_in, bank_in, gap_of, blank_gap, waits_of}
 
--- what stands for a task that isn't there
+-- the entry in a place without a task
 abbrev pub no_task : Waiting
 no_task = record { task = record { at = 0; bank = 0 }; distance = 0 }
 

@@ -43,7 +43,7 @@ impl Default for Waiting {
     }
 }
 
-/// Tasks that wait, in order: at most nine. Contracts see them as a list. Source: profile.
+/// Tasks that wait, in order: at most nine. Contracts see them as a list.
 #[derive(Drop)]
 pub struct Waits {
     waits: ArrayVec<Waiting, 9>,
@@ -77,7 +77,7 @@ impl Waits {
         self.waits.push(Waiting { task, distance });
     }
 
-    /// All of them, in order. Source: profile.
+    /// All of them, in order.
     pub fn as_slice(&self) -> &[Waiting]
         ensures value { result.now ≡ self.now }
         ensures nine { length result.now ≤ 9 }

@@ -7,11 +7,11 @@ use Rattle.std.specs.List.{flat_map, list_all}
 abbrev pub is_plain : ℕ → Bool
 is_plain byte = not (byte == 60)
 
--- what stands behind a backslash: l is <, all else is itself
+-- the byte that a backslash and this byte stand for: < for l, and otherwise the byte itself
 abbrev pub behind : ℕ → ℕ
 behind byte = if byte == 108 then 60 else byte
 
--- what data stand for, read from the front: behind a backslash, or not
+-- the bytes that data stand for, read from the front, inside an escape or not
 abbrev pub read_from : (is_behind : Bool) → List ℕ → List ℕ
 read_from is_behind [] = []
 read_from true (byte ∷ rest) = behind byte ∷ read_from false rest

@@ -2,8 +2,8 @@
 use Rattle.std.specs.Prelude.{◌≡◌, ℕ, List, ◌++◌, Option, Result, Ok, Err, true, false, Bool}
 use Rattle.std.specs.Io.KnownBytes.{Appends}
 use Rattle.agc_text.specs.Writing.{AppendsFront}
-use Rattle.agc_program.specs.declared.fault.Fault.{Fault}
-use Rattle.agc_program.specs.declared.fault.Fault.TheVariants as fault
+use Rattle.agc_program.specs.declared.fault.ProgramFault.{ProgramFault}
+use Rattle.agc_program.specs.declared.fault.ProgramFault.TheVariants as fault
 use Rattle.agc_watch.specs.Data.{IsData}
 use Rattle.agc_watch.specs.declared.page.TheConstants.{OPENING, CLOSING}
 
@@ -25,7 +25,7 @@ pub record IsPage (workbench document page : List ℕ) : Type 0 where
 -- a page was written and nothing else; where a write failed, a front of one; and nothing where
 -- there was no memory, or what should be a workbench is none
 abbrev pub WritesPage : Option (List ℕ) → Option (List ℕ) → List ℕ → List ℕ
-    → Result Bool Fault → Type 0
+    → Result Bool ProgramFault → Type 0
 WritesPage old new workbench document (Ok true) =
     (page : List ℕ) × IsPage workbench document page × Appends old new page
 WritesPage old new workbench document (Ok false) =

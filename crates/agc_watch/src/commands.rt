@@ -5,30 +5,40 @@ use std::alloc::{AllocError, Global};
 /// The version of the program, and of the workbench that it writes into.
 pub(crate) const VERSION: &str = "1.0.0";
 
-/// What the program is called, whatever its file is.
+/// The program's name, whatever its file is called.
 const NAME: &str = "agc_watch";
 
-/// How a word or an option of a command is written.
+/// The exit statuses, in the program's help.
+const STATUSES: &str = "Exit statuses:
+   0  done
+   1  the input is refused
+   2  wrong words on the command line
+   3  no memory
+   4  a read or a write failed
+  10  explore: an order raises the alarm; compare: the documents differ
+  11  explore: undecided";
+
+/// The form of a word or an option of a command.
 #[derive(Clone, Copy)]
-enum Form {
+enum ArgumentKind {
     /// An option that takes no value.
     Flag,
-    /// The same, of which the help says nothing: it changes nothing here.
+    /// A flag that the help doesn't mention, since it changes nothing here.
     Silent,
-    /// An option with a value, which the help calls so.
+    /// An option with a value. The help calls the value by this name.
     Option(&'static str),
-    /// A word, here, which the help calls so, and whether the command must have it.
+    /// A word. The help calls it by this name, and says whether it is required.
     Word(&'static str, bool),
 }
 
-/// A word or an option of a command: its name, how it is written, and its help.
-type Argument = (&'static str, Form, &'static str);
+/// A word or an option of a command: its name, its form, and its help.
+type Argument = (&'static str, ArgumentKind, &'static str);
 
 /// A command.
 #[derive(Clone, Copy)]
-struct Row {
+struct CommandSpec {
     name: &'static str,
-    /// What it is called in its own errors.
+    /// Its name in its own error messages.
     called: &'static str,
     about: &'static str,
     /// The text below its help.
@@ -38,84 +48,65 @@ struct Row {
 
 const FILE: Argument = (
     "file",
-    Form::Word("FILE", false),
+    ArgumentKind::Word("FILE", false),
     "The file to read; standard input if none is named, or -",
 );
 
 const PROGRESS: Argument = (
     "progress",
-    Form::Flag,
+    ArgumentKind::Flag,
     "Says on standard error, once a second, how far it has come",
 );
 
-/// The same where there is nothing to say.
-const SILENT: Argument = ("progress", Form::Silent, "");
+/// `progress` for commands that never report any.
+const SILENT: Argument = ("progress", ArgumentKind::Silent, "");
 
-const CSV: Argument = ("csv", Form::Flag, "Writes comma-separated values");
+const CSV: Argument = ("csv", ArgumentKind::Flag, "Writes comma-separated values");
 
-const TRACE: Row = Row {
+const TRACE: CommandSpec = CommandSpec {
     name: "trace",
     called: "agc_watch trace",
     about: "Writes a line for each request, with the tables",
     example: "Example: agc_watch trace --alarms examples/no-vac-area.toml",
     arguments: &[
         FILE,
-        ("script", Form::Flag, "Reads a script"),
+        ("script", ArgumentKind::Flag, "Reads a script"),
         (
             "alarms",
-            Form::Flag,
+            ArgumentKind::Flag,
             "Shows only the requests that raised an alarm",
         ),
         (
             "brief",
-            Form::Flag,
+            ArgumentKind::Flag,
             "Counts requests after which nothing changed but the time",
         ),
         (
             "from",
-            Form::Option("N"),
+            ArgumentKind::Option("N"),
             "Shows only the requests from number N on",
         ),
         (
             "to",
-            Form::Option("N"),
+            ArgumentKind::Option("N"),
             "Shows only the requests up to number N",
         ),
         CSV,
         (
             "json",
-            Form::Flag,
+            ArgumentKind::Flag,
             "Writes an object of JSON for each request",
         ),
         (
             "perfetto",
-            Form::Flag,
+            ArgumentKind::Flag,
             "Writes a chart that Perfetto and Chrome's tracing open",
         ),
         PROGRESS,
     ],
 };
 
-const PICTURE: Row = Row {
-    name: "picture",
-    called: "agc_watch picture",
-    about: "Draws the tables, request by request or over time, as an SVG",
-    example: "Example: agc_watch picture examples/no-vac-area.toml > run.svg",
-    arguments: &[
-        FILE,
-        ("time", Form::Flag, "Draws seconds along the top"),
-        (
-            "width",
-            Form::Option("N"),
-            "With --time: draws N points wide, or 1600 by default",
-        ),
-        ("from", Form::Option("S"), "With --time: begins at second S"),
-        ("to", Form::Option("S"), "With --time: ends at second S"),
-        PROGRESS,
-    ],
-};
-
-const PAGE: Row = Row {
+const PAGE: CommandSpec = CommandSpec {
     name: "page",
     called: "agc_watch page",
     about: "Writes a page that steps through the requests in a browser",
@@ -124,22 +115,26 @@ const PAGE: Row = Row {
         FILE,
         (
             "workbench",
-            Form::Option("FILE"),
+            ArgumentKind::Option("FILE"),
             "Writes into this workbench, whatever AGC_WORKBENCH names",
         ),
         SILENT,
     ],
 };
 
-const CHECK: Row = Row {
+const CHECK: CommandSpec = CommandSpec {
     name: "check",
     called: "agc_watch check",
     about: "Says what is wrong with an input, and in which line",
     example: "Example: agc_watch check examples/no-vac-area.toml",
-    arguments: &[FILE, ("script", Form::Flag, "Reads a script"), SILENT],
+    arguments: &[
+        FILE,
+        ("script", ArgumentKind::Flag, "Reads a script"),
+        SILENT,
+    ],
 };
 
-const EXPLORE: Row = Row {
+const EXPLORE: CommandSpec = CommandSpec {
     name: "explore",
     called: "agc_watch explore",
     about: "Says whether any order of the workers and devices raises an alarm",
@@ -148,45 +143,45 @@ const EXPLORE: Row = Row {
         FILE,
         (
             "states",
-            Form::Option("N"),
+            ArgumentKind::Option("N"),
             "Gives up after N states, or 2000000 by default",
         ),
         (
             "alarm",
-            Form::Option("ALARM"),
+            ArgumentKind::Option("ALARM"),
             "Reports only this alarm: 1201, 1202 or 1203",
         ),
-        ("through", Form::Flag, "Goes on after an alarm"),
+        ("through", ArgumentKind::Flag, "Goes on after an alarm"),
         (
             "repeat",
-            Form::Flag,
+            ArgumentKind::Flag,
             "Lets no caller stop: each begins anew after its last request",
         ),
         (
             "least",
-            Form::Option("N"),
+            ArgumentKind::Option("N"),
             "At least N requests come between two ticks",
         ),
         (
             "most",
-            Form::Option("N"),
+            ArgumentKind::Option("N"),
             "At most N requests come between two ticks",
         ),
         (
             "peaks",
-            Form::Flag,
+            ArgumentKind::Flag,
             "Doesn't stop at the answer: tells the most jobs, areas and tasks",
         ),
         (
             "bench",
-            Form::Option("ALARM"),
+            ArgumentKind::Option("ALARM"),
             "Writes a shortest order that raises this alarm, as a bench",
         ),
         CSV,
     ],
 };
 
-const BENCH: Row = Row {
+const BENCH: CommandSpec = CommandSpec {
     name: "bench",
     called: "agc_watch bench",
     about: "Writes the bench that a scenario comes to",
@@ -194,7 +189,7 @@ const BENCH: Row = Row {
     arguments: &[FILE],
 };
 
-const PEAKS: Row = Row {
+const PEAKS: CommandSpec = CommandSpec {
     name: "peaks",
     called: "agc_watch peaks",
     about: "Says for each era how full the tables were, and what ended it",
@@ -202,7 +197,7 @@ const PEAKS: Row = Row {
     arguments: &[FILE, CSV],
 };
 
-const JOBS: Row = Row {
+const JOBS: CommandSpec = CommandSpec {
     name: "jobs",
     called: "agc_watch jobs",
     about: "Says how long the jobs of each address took, and what they waited for",
@@ -210,7 +205,7 @@ const JOBS: Row = Row {
     arguments: &[FILE, CSV],
 };
 
-const COMPARE: Row = Row {
+const COMPARE: CommandSpec = CommandSpec {
     name: "compare",
     called: "agc_watch compare",
     about: "Says what two benches or scenarios come to that differs",
@@ -218,18 +213,18 @@ const COMPARE: Row = Row {
     arguments: &[
         (
             "file",
-            Form::Word("FIRST", true),
+            ArgumentKind::Word("FIRST", true),
             "The first file; standard input for -",
         ),
         (
             "second",
-            Form::Word("SECOND", true),
+            ArgumentKind::Word("SECOND", true),
             "The second file; standard input for -",
         ),
     ],
 };
 
-const SWEEP: Row = Row {
+const SWEEP: CommandSpec = CommandSpec {
     name: "sweep",
     called: "agc_watch sweep",
     about: "Runs a scenario once for each value of one of its numbers",
@@ -245,29 +240,29 @@ Example: agc_watch sweep seed 1 100 scenario.toml",
     arguments: &[
         (
             "key",
-            Form::Word("KEY", true),
+            ArgumentKind::Word("KEY", true),
             "Which number: steal, sets, job.NAME.cost, ..",
         ),
-        ("from", Form::Word("FROM", true), "The first value"),
-        ("to", Form::Word("TO", true), "The last value"),
+        ("from", ArgumentKind::Word("FROM", true), "The first value"),
+        ("to", ArgumentKind::Word("TO", true), "The last value"),
         (
             "step",
-            Form::Word("STEP", false),
+            ArgumentKind::Word("STEP", false),
             "The step from one value to the next, or 1 by default",
         ),
         (
             "file",
-            Form::Word("FILE", false),
+            ArgumentKind::Word("FILE", false),
             "The scenario to read; standard input if none is named, or -",
         ),
         (
             "and",
-            Form::Option("KEY:FROM:TO[:STEP]"),
+            ArgumentKind::Option("KEY:FROM:TO[:STEP]"),
             "Runs it for each value of a second number, too",
         ),
         (
             "find",
-            Form::Flag,
+            ArgumentKind::Flag,
             "Looks for the smallest value that raises an alarm",
         ),
         CSV,
@@ -275,67 +270,44 @@ Example: agc_watch sweep seed 1 100 scenario.toml",
     ],
 };
 
-const CORE: Row = Row {
-    name: "core",
-    called: "agc_watch core",
-    about: "Says what the tables in the memory of a real computer hold",
-    example: "\
-MAP is a TOML file that says where the tables are. FILE has the memory's words, an
-octal number in each line, as yaAGC writes its core dump.
-
-Example: agc_watch core share/maps/made-up.toml LM.core",
-    arguments: &[
-        (
-            "map",
-            Form::Word("MAP", true),
-            "Where the tables are: a TOML file",
-        ),
-        (
-            "file",
-            Form::Word("FILE", false),
-            "The memory to read; standard input if none is named, or -",
-        ),
-    ],
-};
-
-const PLAY: Row = Row {
+const PLAY: CommandSpec = CommandSpec {
     name: "play",
     called: "agc_watch play",
     about: "Answers each request as it is typed, a line at a time",
     example: "Example: agc_watch play examples/no-vac-area.toml",
     arguments: &[(
         "file",
-        Form::Word("FILE", false),
+        ArgumentKind::Word("FILE", false),
         "The bench to begin from; an empty plan if none is named",
     )],
 };
 
 /// The commands that show a run. docs/DECISIONS.md says why not all commands are in one table.
-fn showing() -> &'static [Row] {
-    static ROWS: [Row; 3] = [TRACE, PICTURE, PAGE];
+fn showing() -> &'static [CommandSpec] {
+    static ROWS: [CommandSpec; 2] = [TRACE, PAGE];
     &ROWS
 }
 
-/// The commands that look at a document as it stands, or write one.
-fn judging() -> &'static [Row] {
-    static ROWS: [Row; 3] = [CHECK, EXPLORE, BENCH];
+/// The commands that examine a document or write one.
+fn judging() -> &'static [CommandSpec] {
+    static ROWS: [CommandSpec; 3] = [CHECK, EXPLORE, BENCH];
     &ROWS
 }
 
-/// The commands that count what runs came to.
-fn counting() -> &'static [Row] {
-    static ROWS: [Row; 3] = [PEAKS, JOBS, COMPARE];
+/// The commands that write summaries of runs.
+fn counting() -> &'static [CommandSpec] {
+    static ROWS: [CommandSpec; 3] = [PEAKS, JOBS, COMPARE];
     &ROWS
 }
 
 /// All other commands.
-fn others() -> &'static [Row] {
-    static ROWS: [Row; 3] = [SWEEP, CORE, PLAY];
+fn others() -> &'static [CommandSpec] {
+    static ROWS: [CommandSpec; 2] = [SWEEP, PLAY];
     &ROWS
 }
 
 /// The rows of all commands, in the order of the help.
-fn all_rows() -> [&'static [Row]; 4] {
+fn all_rows() -> [&'static [CommandSpec]; 4] {
     [showing(), judging(), counting(), others()]
 }
 
@@ -344,15 +316,15 @@ fn arg_of<'a>(alloc: Global, argument: &Argument) -> Arg<'a> {
     let (name, form, help) = *argument;
     let arg = Arg::new(alloc, name).help(help);
     match form {
-        Form::Flag => arg.long(name).action(ArgAction::SetTrue),
-        Form::Silent => arg.long(name).action(ArgAction::SetTrue).hide(true),
-        Form::Option(value) => arg.long(name).value_name(value),
-        Form::Word(value, is_required) => arg.value_name(value).required(is_required),
+        ArgumentKind::Flag => arg.long(name).action(ArgAction::SetTrue),
+        ArgumentKind::Silent => arg.long(name).action(ArgAction::SetTrue).hide(true),
+        ArgumentKind::Option(value) => arg.long(name).value_name(value),
+        ArgumentKind::Word(value, is_required) => arg.value_name(value).required(is_required),
     }
 }
 
 /// The words and options of a command.
-fn args_of<'a>(alloc: Global, row: &Row) -> Result<Vec<Arg<'a>>, AllocError> {
+fn args_of<'a>(alloc: Global, row: &CommandSpec) -> Result<Vec<Arg<'a>>, AllocError> {
     let mut args = Vec::new(alloc);
     for argument in row.arguments {
         args.push(arg_of(alloc, argument))?;
@@ -361,7 +333,7 @@ fn args_of<'a>(alloc: Global, row: &Row) -> Result<Vec<Arg<'a>>, AllocError> {
 }
 
 /// A command, with its words and options.
-fn command_of<'a>(alloc: Global, row: &Row) -> Result<Command<'a>, AllocError> {
+fn command_of<'a>(alloc: Global, row: &CommandSpec) -> Result<Command<'a>, AllocError> {
     let args = args_of(alloc, row)?;
     Command::new(alloc, row.name)
         .about(row.about)
@@ -387,13 +359,14 @@ pub(crate) fn whole_command<'a>(alloc: Global) -> Result<Command<'a>, AllocError
         .bin_name(NAME)?
         .version(VERSION)
         .about("Shows what the requests of a bench or scenario do to the tables")
+        .after_help(STATUSES)
         .subcommand_required(true)
         .arg_required_else_help(true)
         .subcommands(commands)
 }
 
 /// The row of the command of this name.
-fn row_named(name: &str) -> Option<Row> {
+fn row_named(name: &str) -> Option<CommandSpec> {
     for rows in &all_rows() {
         if let Some(row) = rows.iter().find(|row| row.name == name) {
             return Some(*row);
@@ -402,8 +375,8 @@ fn row_named(name: &str) -> Option<Row> {
     None
 }
 
-/// The command of this name as its own error calls it, for words that are wrong for a reason that
-/// `clap` doesn't know. It is the program, where no command has the name.
+/// The command of this name, for an error of its words that `clap` doesn't know; the program, if no
+/// command has the name.
 pub(crate) fn named_command<'a>(alloc: Global, name: &str) -> Result<Command<'a>, AllocError> {
     match row_named(name) {
         Some(row) => command_of(alloc, &row)?.bin_name(row.called),

@@ -1,123 +1,150 @@
-//! The document that a text is. Of one that is none it is said what is wrong with it.
-use crate::stops::Stop;
+//! The document that a text is; if it is none, its findings.
+use crate::stops::{Stop, stop_with};
 use agc_check::{
-    Checked, CheckedExplored, CheckedScenario, Document, Explored, Finding, NoDocument,
-    bench_findings, bench_told, explored_findings, scenario_findings,
+    CheckedExplored, CheckedScenario, Document, ExploredBench, Finding, NamedText, NoDocument,
+    bench_messages, explored_findings, scenario_findings,
 };
-use agc_document::{Bench, BenchFault};
-use agc_program::Fault;
+use agc_document::Bench;
+use agc_program::ProgramFault;
 use agc_run::Subject;
 use agc_scenario::{Scenario, is_scenario};
 use std::alloc::{AllocError, Global};
 
-/// What a document is that is shown.
+const RUN_ONCE: &str =
+    "workers that repeat and devices without pulses are run once; agc refuses such a bench";
+
+const WANTS_SCENARIO: &str = " this is a bench; a scenario has the key \"seconds\"";
+
+const WANTS_BENCH: &str =
+    " this is a scenario, whose clock fixes the order of its requests. A bench \
+has callers in its place, for example:
+[[worker]]
+script = [\"novac 20 02000 00005\", \"end\"]
+[[worker]]
+script = [\"list 1 04000 00005\", \"tick\"]";
+
+/// The bench or scenario that a document is.
 #[derive(Drop)]
-pub(crate) enum Shown {
-    Bench(Bench),
+pub(crate) enum RunnableDocument {
+    Bench(ExploredBench),
     Scenario(Scenario),
 }
 
-impl Shown {
-    /// What is run of it.
+impl RunnableDocument {
+    /// The subject of its run.
     pub(crate) fn subject(&self) -> Subject<'_> {
         match self {
-            Shown::Bench(bench) => Subject::Bench(bench),
-            Shown::Scenario(scenario) => Subject::Scenario(scenario),
+            RunnableDocument::Bench(explored) => Subject::Bench(&explored.bench),
+            RunnableDocument::Scenario(scenario) => Subject::Scenario(scenario),
+        }
+    }
+
+    /// Says on standard error if this is a bench of callers that never stop.
+    pub(crate) fn say_run_once(&self, rt: &HostRuntime, input: NamedText<'_>) {
+        if let RunnableDocument::Bench(explored) = self {
+            say_run_once(rt, input, explored);
         }
     }
 }
 
-/// A document that is refused, in which this was found: for the fault of what was found first.
-fn wrong(alloc: Global, found: &[Finding]) -> Stop {
-    let fault = match found {
-        [first, ..] => first.wrong.fault(),
-        [] => BenchFault::NotToml,
-    };
-    match bench_told(alloc, found) {
-        Ok(told) => Stop::Wrong(fault, told),
-        Err(_no_memory) => Stop::Fault(Fault::NoMemory),
+/// Says on standard error how a bench of callers that never stop is run, if it is such a bench.
+fn say_run_once(rt: &HostRuntime, input: NamedText<'_>, explored: &ExploredBench) {
+    let (file, flags) = (input.before_line, &explored.flags);
+    if flags.repeats.iter().any(|repeats| *repeats)
+        || flags.endless.iter().any(|endless| *endless)
+    {
+        let _ = eprintln!(rt; "agc_watch: {file} {RUN_ONCE}");
     }
 }
 
-/// The document that a text is.
-fn parsed<'a>(alloc: Global, text: &'a str) -> Result<Document<'a>, Stop> {
-    match Document::parse(alloc, text) {
+/// Stops for these findings of an input.
+fn refusal(alloc: Global, input: NamedText<'_>, found: &[Finding]) -> Stop {
+    match bench_messages(alloc, input.before_line, found) {
+        Ok(messages) => Stop::Findings(messages),
+        Err(_no_memory) => Stop::ProgramFault(ProgramFault::NoMemory),
+    }
+}
+
+/// The document that an input is.
+fn parse_document<'a>(alloc: Global, input: NamedText<'a>) -> Result<Document<'a>, Stop> {
+    match Document::parse(alloc, input.text) {
         Ok(document) => Ok(document),
-        Err(NoDocument::NoMemory) => Err(Stop::Fault(Fault::NoMemory)),
-        Err(NoDocument::NotToml(found)) => Err(wrong(alloc, found.as_slice())),
+        Err(NoDocument::NoMemory) => Err(Stop::ProgramFault(ProgramFault::NoMemory)),
+        Err(NoDocument::NotToml(found)) => Err(refusal(alloc, input, found.as_slice())),
     }
 }
 
-/// The bench or the scenario that a document is, or else what was found that is wrong with it: a
-/// scenario is a document that says how many seconds it lasts.
+/// The bench or the scenario that a document is, or its findings. A scenario is a document that
+/// says how many seconds it lasts.
 pub(crate) fn looked_at(
     alloc: Global,
     document: &Document<'_>,
-) -> Result<Result<Shown, Vec<Finding>>, AllocError> {
+) -> Result<Result<RunnableDocument, Vec<Finding>>, AllocError> {
     if is_scenario(document.table()) {
         let CheckedScenario { scenario, findings } = scenario_findings(alloc, document)?;
-        Ok(scenario.map(Shown::Scenario).ok_or(findings))
+        Ok(scenario.map(RunnableDocument::Scenario).ok_or(findings))
     } else {
-        let Checked { bench, findings } = bench_findings(alloc, document)?;
-        Ok(bench.map(Shown::Bench).ok_or(findings))
+        let CheckedExplored { explored, findings } = explored_findings(alloc, document)?;
+        Ok(explored.map(RunnableDocument::Bench).ok_or(findings))
     }
 }
 
-/// The bench or the scenario that a text is.
-pub(crate) fn document_in(alloc: Global, text: &str) -> Result<Shown, Stop> {
-    let document = parsed(alloc, text)?;
-    match looked_at(alloc, &document)? {
-        Ok(shown) => Ok(shown),
-        Err(found) => Err(wrong(alloc, found.as_slice())),
+/// The bench or the scenario that an input is.
+pub(crate) fn document_in(
+    rt: &HostRuntime,
+    input: NamedText<'_>,
+) -> Result<RunnableDocument, Stop> {
+    let document = parse_document(rt.alloc(), input)?;
+    match looked_at(rt.alloc(), &document)? {
+        Ok(runnable) => {
+            runnable.say_run_once(rt, input);
+            Ok(runnable)
+        }
+        Err(found) => Err(refusal(rt.alloc(), input, found.as_slice())),
     }
 }
 
-/// The bench that a text is.
-pub(crate) fn bench_in(alloc: Global, text: &str) -> Result<Bench, Stop> {
-    let document = parsed(alloc, text)?;
+/// The bench that an input is, and which of its callers never stop.
+pub(crate) fn explored_in(alloc: Global, input: NamedText<'_>) -> Result<ExploredBench, Stop> {
+    let document = parse_document(alloc, input)?;
     if is_scenario(document.table()) {
-        return Err(Stop::IsScenario);
-    }
-    let Checked { bench, findings } = bench_findings(alloc, &document)?;
-    match bench {
-        Some(bench) => Ok(bench),
-        None => Err(wrong(alloc, findings.as_slice())),
-    }
-}
-
-/// The bench that a text is where it is explored, and which of its workers repeat.
-pub(crate) fn explored_in(alloc: Global, text: &str) -> Result<Explored, Stop> {
-    let document = parsed(alloc, text)?;
-    if is_scenario(document.table()) {
-        return Err(Stop::IsScenario);
+        return Err(stop_with(alloc, 1, &[input.before_line, WANTS_BENCH]));
     }
     let CheckedExplored { explored, findings } = explored_findings(alloc, &document)?;
     match explored {
         Some(explored) => Ok(explored),
-        None => Err(wrong(alloc, findings.as_slice())),
+        None => Err(refusal(alloc, input, findings.as_slice())),
     }
 }
 
-/// Why a document is no scenario, in which this was found. A bench gets a sentence of its own.
+/// The bench to play from.
+pub(crate) fn bench_in(rt: &HostRuntime, input: NamedText<'_>) -> Result<Bench, Stop> {
+    let explored = explored_in(rt.alloc(), input)?;
+    say_run_once(rt, input, &explored);
+    Ok(explored.bench)
+}
+
+/// Stops for these findings of an input that is no scenario. A bench gets a sentence of its own.
 fn no_scenario(
     alloc: Global,
+    input: NamedText<'_>,
     document: &Document<'_>,
     found: &[Finding],
 ) -> Result<Stop, AllocError> {
-    let checked = bench_findings(alloc, document)?;
-    if checked.bench.is_some() {
-        Ok(Stop::IsBench)
+    let checked = explored_findings(alloc, document)?;
+    if checked.explored.is_some() {
+        Ok(stop_with(alloc, 1, &[input.before_line, WANTS_SCENARIO]))
     } else {
-        Ok(wrong(alloc, found))
+        Ok(refusal(alloc, input, found))
     }
 }
 
-/// The scenario that a text is.
-pub(crate) fn scenario_in(alloc: Global, text: &str) -> Result<Scenario, Stop> {
-    let document = parsed(alloc, text)?;
+/// The scenario that an input is.
+pub(crate) fn scenario_in(alloc: Global, input: NamedText<'_>) -> Result<Scenario, Stop> {
+    let document = parse_document(alloc, input)?;
     let CheckedScenario { scenario, findings } = scenario_findings(alloc, &document)?;
     match scenario {
         Some(scenario) => Ok(scenario),
-        None => Err(no_scenario(alloc, &document, findings.as_slice())?),
+        None => Err(no_scenario(alloc, input, &document, findings.as_slice())?),
     }
 }

@@ -1,17 +1,17 @@
-//! Where the input is: a file that is named, or standard input.
+//! Reading the input: a file that is named, or standard input.
 use crate::stops::Stop;
 use crate::words::Input;
-use agc_program::Fault;
+use agc_program::ProgramFault;
 use agc_text::{MOST_BYTES, read_all};
 use std::alloc::Global;
 use std::fmt::Write;
-use std::io::{ErrorKind, Input as Standard, Read};
+use std::io::{ErrorKind, Input as Standard, IsTerminal, Read};
 use std::{fs, io};
 
 /// The bench to play from if no file is named: an empty plan, and room for a million requests.
 const EMPTY: &str = "limit = 1000000\nallowance = 9223372036854775807\n";
 
-/// The bytes of a file, as many as an input may have, and one more.
+/// The bytes of a file, but at most one more than an input may have.
 pub(crate) fn read_file(rt: &HostRuntime, name: &str) -> io::Result<Vec<u8>> {
     let mut bytes = Vec::new(rt.alloc());
     let mut file = fs::open(rt, name)?.take(MOST_BYTES as u64 + 1);
@@ -19,13 +19,13 @@ pub(crate) fn read_file(rt: &HostRuntime, name: &str) -> io::Result<Vec<u8>> {
     Ok(bytes)
 }
 
-/// Why a file can't be read, in the system's words.
+/// Stops because a file can't be read, in the system's words.
 pub(crate) fn unread(alloc: Global, name: &str, error: &io::Error) -> Stop {
     let mut told = String::new(alloc);
     if error.kind() != ErrorKind::OutOfMemory && write!(told, "{name}: {error}").is_ok() {
-        Stop::Said(4, told)
+        Stop::Message(4, told)
     } else {
-        Stop::Fault(Fault::NoMemory)
+        Stop::ProgramFault(ProgramFault::NoMemory)
     }
 }
 
@@ -33,14 +33,19 @@ pub(crate) fn unread(alloc: Global, name: &str, error: &io::Error) -> Stop {
 fn read_whole<R: Read>(alloc: Global, reader: &mut R) -> Result<String, Stop> {
     match read_all(alloc, reader) {
         Ok(text) => Ok(text),
-        Err(fault) => Err(Stop::Fault(Fault::Read(fault))),
+        Err(fault) => Err(Stop::ProgramFault(ProgramFault::Read(fault))),
     }
 }
 
 /// The text of an input.
 pub(crate) fn text_of(rt: &HostRuntime, input: Input<'_>) -> Result<String, Stop> {
     match input {
-        Input::Standard => read_whole(rt.alloc(), &mut rt.reader()),
+        Input::Standard => {
+            if rt.stdin().is_terminal() {
+                let _ = eprintln!(rt; "agc_watch: reading standard input; end it by Ctrl-D");
+            }
+            read_whole(rt.alloc(), &mut rt.reader())
+        }
         Input::File(name) => match read_file(rt, name) {
             Ok(bytes) => read_whole(rt.alloc(), &mut bytes.as_slice()),
             Err(error) => Err(unread(rt.alloc(), name, &error)),

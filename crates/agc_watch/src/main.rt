@@ -1,13 +1,12 @@
-//! `agc_watch trace`, `picture` and `page` show what the requests of a bench do to the tables.
+//! `agc_watch trace` and `page` show what the requests of a bench do to the tables.
 //! `agc_watch check` says what is wrong with a bench, or with `--script` what is wrong with a
-//! script. `agc_watch bench`, `peaks` and `sweep` say what a scenario comes to, and
-//! `agc_watch core` what the memory of a real computer holds. They read the file that is named, or
-//! standard input. `agc_watch play` answers each line of standard input before it reads the next.
+//! script. `agc_watch bench`, `peaks` and `sweep` say what a scenario comes to. They read the file
+//! that is named, or standard input. `agc_watch play` answers each line of standard input before it
+//! reads the next.
 #![tactic(auto)]
 
 mod checking;
 mod commands;
-mod cores;
 mod documents;
 mod files;
 mod page;
@@ -19,14 +18,14 @@ mod words;
 mod work;
 mod workbench;
 
-use agc_play::Manner;
+use agc_play::PlayOptions;
 use std::io::IsTerminal;
 use std::process::ExitCode;
 
 fn main(rt: HostRuntime) -> ExitCode {
-    let manner = Manner {
+    let rules = PlayOptions {
         prompts: rt.stdin().is_terminal(),
         folds: rt.stdout().is_terminal(),
     };
-    program::run(&rt, manner)
+    program::run(&rt, rules)
 }

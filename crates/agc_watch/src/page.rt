@@ -4,12 +4,12 @@ ghost use Rattle.agc_text.specs.Writing.{Writes};
 ghost use Rattle.agc_watch.specs.Data.{spelled, data_of};
 ghost use Rattle.agc_watch.specs.Pages.{IsWorkbench, WritesPage};
 
-use agc_program::Fault;
+use agc_program::ProgramFault;
 use agc_text::{Output, put};
 use std::alloc::{AllocError, Global};
 use std::io::Write;
 
-/// What the workbench has ahead of its document's data, and what behind them.
+/// The workbench's text right before its document's data, and right after them.
 const OPENING: &[u8] = b"<script type=\"text/plain\" id=\"document\">\n";
 
 const CLOSING: &[u8] = b"</script>\n</body>\n</html>\n";
@@ -25,7 +25,7 @@ fn add_spelled(told: &mut Vec<u8>, byte: u8) -> Result<(), AllocError>
     }
 }
 
-/// The data of a document, in which nothing begins markup.
+/// The data of a document, which contain no markup.
 fn data_of(alloc: Global, text: &str) -> Result<Vec<u8>, AllocError>
     ensures { IfOk result (λ v. v.items ≡ data_of text.now) }
 {
@@ -36,7 +36,7 @@ fn data_of(alloc: Global, text: &str) -> Result<Vec<u8>, AllocError>
     Ok(spelled)
 }
 
-/// A workbench up to where its document's data belong. None for a text that is no workbench, or
+/// A workbench up to the place of its document's data. None for a text that is no workbench, or
 /// that has a document already.
 fn front_of(workbench: &[u8]) -> Option<&[u8]>
     ensures found { IfSome result (λ front. IsWorkbench workbench.now front.now) }
@@ -63,14 +63,14 @@ fn put_three<W: Write>(front: &[u8], inner: &[u8], end: &[u8], writer: &mut W) -
 ///
 /// # Errors
 ///
-/// `NoMemory`, and nothing was written. `Output`, where a write failed, or took nothing of what was
+/// `NoMemory`, and nothing was written. `Output` if a write failed, or took nothing of what was
 /// left.
 pub(crate) fn put_page<W: Write>(
     alloc: Global,
     workbench: &[u8],
     document: &str,
     writer: &mut W,
-) -> Result<bool, Fault>
+) -> Result<bool, ProgramFault>
     ensures { WritesPage (W.contents writer.old) (W.contents writer.new) workbench.now document.now
         result }
 {
@@ -78,7 +78,7 @@ pub(crate) fn put_page<W: Write>(
     match front_of(workbench) {
         Some(front) => match put_three(front, inner.as_slice(), CLOSING, writer) {
             Ok(()) => Ok(true),
-            Err(_failed) => Err(Fault::Output),
+            Err(_failed) => Err(ProgramFault::Output),
         },
         None => Ok(false),
     }

@@ -1,103 +1,104 @@
-//! How far work has come, in a line a second.
+//! The progress of work, reported in a line a second.
 use agc_session::Progress;
 use std::io::IsTerminal;
 use std::time::{Duration, Instant};
 
-/// A picture of more columns than these is said to be wide.
-const MOST_COLUMNS: u64 = 2000;
-
-/// What is counted.
+/// The things that are counted.
 #[derive(Clone, Copy)]
-pub(crate) enum Counted {
+pub(crate) enum WorkUnit {
     Requests,
     Runs,
     States,
 }
 
-impl Counted {
-    /// What it is called.
+impl WorkUnit {
+    /// Their name, in the plural.
     fn name(self) -> &'static str {
         match self {
-            Counted::Requests => "requests",
-            Counted::Runs => "runs",
-            Counted::States => "states",
+            WorkUnit::Requests => "requests",
+            WorkUnit::Runs => "runs",
+            WorkUnit::States => "states",
         }
     }
 
-    /// Whether the clock is read when so many are done.
+    /// Whether the clock is read at this count.
     fn reads_clock_at(self, count: u64) -> bool {
         match self {
-            Counted::Requests | Counted::States => count % 1024 == 0,
-            Counted::Runs => true,
+            WorkUnit::Requests | WorkUnit::States => count % 1024 == 0,
+            WorkUnit::Runs => true,
         }
     }
 
-    /// Whether they are always reported.
-    fn is_always_told(self) -> bool {
+    /// Whether a line of a table is written as each ends.
+    fn writes_table(self) -> bool {
         match self {
-            Counted::States => true,
-            Counted::Requests | Counted::Runs => false,
+            WorkUnit::Runs => true,
+            WorkUnit::Requests | WorkUnit::States => false,
+        }
+    }
+
+    /// Whether their count is always reported.
+    fn is_always_reported(self) -> bool {
+        match self {
+            WorkUnit::States => true,
+            WorkUnit::Requests | WorkUnit::Runs => false,
         }
     }
 }
 
-/// Reports on standard error, once a second, how many are done. Nothing is reported if it isn't
-/// known when the work began.
+/// A reporter of progress on standard error, once a second. It reports nothing if it isn't known
+/// when the work began.
 #[derive(Drop)]
-pub(crate) struct Teller<'a> {
+pub(crate) struct ProgressReporter<'a> {
     rt: &'a HostRuntime,
     begun: Option<Instant>,
     seconds: u64,
-    counted: Counted,
+    work_unit: WorkUnit,
     expected: u64,
     count: u64,
 }
 
-impl<'a> Teller<'a> {
-    /// Starts now, and counts these. Progress is reported if that is wanted, if standard error is a
-    /// terminal, and of a search for states.
-    pub(crate) fn new(rt: &'a HostRuntime, counted: Counted, is_wanted: bool) -> Teller<'a> {
-        let begun = if is_wanted || counted.is_always_told() || rt.stderr().is_terminal() {
+impl<'a> ProgressReporter<'a> {
+    /// Starts now, and counts these. Progress is reported if it is wanted, if standard error is a
+    /// terminal and no table of runs is written to one, and always for a search for states.
+    pub(crate) fn new(
+        rt: &'a HostRuntime,
+        work_unit: WorkUnit,
+        is_wanted: bool,
+    ) -> ProgressReporter<'a> {
+        let is_seen = rt.stderr().is_terminal()
+            && !(work_unit.writes_table() && rt.stdout().is_terminal());
+        let begun = if is_wanted || work_unit.is_always_reported() || is_seen {
             Instant::now(rt).ok()
         } else {
             None
         };
-        Teller {
+        ProgressReporter {
             rt,
             begun,
             seconds: 0,
-            counted,
+            work_unit,
             expected: 0,
             count: 0,
         }
     }
 
-    /// Reports how many columns a picture has, one for each request, if there are many.
-    pub(crate) fn tell_columns(&self) {
-        let count = self.count;
-        if count > MOST_COLUMNS {
-            let _ = eprintln!(self.rt;
-                "agc_watch: a column for each of {count} requests; --time draws seconds"
-            );
-        }
-    }
-
-    /// How long the work has taken, if a second has passed since that was reported last.
-    fn passed(&mut self) -> Option<Duration> {
-        let passed = self.begun?.elapsed(self.rt).ok()?;
-        let is_due = passed.as_secs() > self.seconds;
+    /// How long the work has taken, if a second has passed since the last report.
+    fn elapsed(&mut self) -> Option<Duration> {
+        let elapsed = self.begun?.elapsed(self.rt).ok()?;
+        let is_due = elapsed.as_secs() > self.seconds;
         if is_due {
-            self.seconds = passed.as_secs();
+            self.seconds = elapsed.as_secs();
         }
-        is_due.then_some(passed)
+        is_due.then_some(elapsed)
     }
 
-    /// Reports how many are done, if a second has passed.
-    fn tell(&mut self) {
-        if self.passed().is_none() {
+    /// Reports the count, if a second has passed.
+    fn report(&mut self) {
+        if self.elapsed().is_none() {
             return;
         }
-        let (count, expected, name) = (self.count, self.expected, self.counted.name());
+        let (count, expected, name) = (self.count, self.expected, self.work_unit.name());
         let _ = if expected == 0 {
             eprintln!(self.rt; "agc_watch: {count} {name}")
         } else {
@@ -106,31 +107,31 @@ impl<'a> Teller<'a> {
     }
 }
 
-/// How many a second that is.
-fn rate_of(count: u64, passed: Duration) -> u64 {
-    let millis = u64::try_from(passed.as_millis()).unwrap_or(u64::MAX);
+/// The count per second.
+fn rate_of(count: u64, elapsed: Duration) -> u64 {
+    let millis = u64::try_from(elapsed.as_millis()).unwrap_or(u64::MAX);
     count.saturating_mul(1000).checked_div(millis).unwrap_or(0)
 }
 
-impl Progress for Teller<'_> {
+impl Progress for ProgressReporter<'_> {
     fn expect(&mut self, count: u64) {
         self.expected = self.expected.saturating_add(count);
     }
 
     fn done(&mut self) {
         self.count = self.count.saturating_add(1);
-        if self.counted.reads_clock_at(self.count) && self.count != self.expected {
-            self.tell();
+        if self.work_unit.reads_clock_at(self.count) && self.count != self.expected {
+            self.report();
         }
     }
 }
 
-impl agc_explore::Progress for Teller<'_> {
+impl agc_explore::SearchProgress for ProgressReporter<'_> {
     fn note(&mut self, states: usize, depth: usize) {
         self.count = self.count.wrapping_add(1);
-        if self.counted.reads_clock_at(self.count) {
-            if let Some(passed) = self.passed() {
-                let rate = rate_of(states as u64, passed);
+        if self.work_unit.reads_clock_at(self.count) {
+            if let Some(elapsed) = self.elapsed() {
+                let rate = rate_of(states as u64, elapsed);
                 let _ = eprintln!(self.rt;
                     "agc_watch: {states} states, {depth} requests deep, {rate} a second"
                 );

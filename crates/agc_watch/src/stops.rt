@@ -1,109 +1,117 @@
-//! Why a command ends early, and how the program ends by that.
+//! Reasons to end a command early, and how the program ends for each.
 ghost use Rattle.std.specs.Prelude.{◌≡◌};
 ghost use Rattle.agc_watch.specs.declared.stops.Stop.TheVariants as stop;
-ghost use Rattle.agc_program.specs.declared.fault.Fault.TheVariants as fault;
+ghost use Rattle.agc_program.specs.declared.fault.ProgramFault.TheVariants as fault;
 
-use agc_document::BenchFault;
-use agc_program::{Fault, Program, ended};
+use agc_check::add;
+use agc_program::{Program, ProgramFault, exit_with};
 use agc_session::RunFault;
 use agc_text::MOST_BYTES;
 use clap::Error;
-use std::alloc::AllocError;
+use std::alloc::{AllocError, Global};
 use std::process::ExitCode;
 
-/// What the program is called, and which words it takes.
+/// The program's name, and its message about wrong words.
 const PROGRAM: Program = Program {
     name: "agc_watch",
-    usage: "use trace, picture, page, check, explore, bench, peaks, jobs, compare, sweep, core or \
-        play",
+    usage: "use trace, page, check, explore, bench, peaks, jobs, compare, sweep or play",
 };
 
-/// Why a command ends early.
+/// The exit status if the answer is yes: an order raises the alarm, or two documents differ.
+pub(crate) const YES: u8 = 10;
+
+/// The exit status if a search ended before it could answer.
+pub(crate) const UNDECIDED: u8 = 11;
+
+/// A reason to end a command early.
 #[derive(Drop)]
 pub(crate) enum Stop {
-    Fault(Fault),
-    /// The document is refused for this fault, of which these lines tell.
-    Wrong(BenchFault, String),
-    /// The document is a bench, and a scenario is wanted.
-    IsBench,
-    /// The document is a scenario, and a bench is wanted.
-    IsScenario,
-    /// The bench that was written has so many bytes, more than `agc` takes.
+    ProgramFault(ProgramFault),
+    /// The input is refused for the findings in these lines.
+    Findings(String),
+    /// The bench that was written has this many bytes, more than `agc` takes.
     TooLong(u64),
-    /// The words ask for a text, the help or the version; or they are wrong, or don't suit the
-    /// document, which this text explains.
+    /// The words ask for the help or the version, or they are wrong, or don't suit the document;
+    /// this text explains.
     Words(Error),
-    /// This sentence says why, and this is the exit status.
-    Said(u8, String),
+    /// This sentence is the reason, and this is the exit status.
+    Message(u8, String),
 }
 
-impl From<Fault> for Stop {
-    ghost from_gives = { λ why e. e ≡ stop.Fault why };
+/// These words, joined.
+pub(crate) fn join_words(alloc: Global, words: &[&str]) -> Result<String, AllocError> {
+    let mut text = String::new(alloc);
+    add(&mut text, words)?;
+    Ok(text)
+}
 
-    fn from(why: Fault) -> Self {
-        Self::Fault(why)
+/// An end with this status, for which these words give the reason.
+pub(crate) fn stop_with(alloc: Global, status: u8, words: &[&str]) -> Stop {
+    match join_words(alloc, words) {
+        Ok(text) => Stop::Message(status, text),
+        Err(_no_memory) => Stop::ProgramFault(ProgramFault::NoMemory),
+    }
+}
+
+impl From<ProgramFault> for Stop {
+    ghost from_gives = { λ why e. e ≡ stop.ProgramFault why };
+
+    fn from(why: ProgramFault) -> Self {
+        Self::ProgramFault(why)
     }
 }
 
 impl From<AllocError> for Stop {
-    ghost from_gives = { λ _ e. e ≡ stop.Fault fault.NoMemory };
+    ghost from_gives = { λ _ e. e ≡ stop.ProgramFault fault.NoMemory };
 
     fn from(_error: AllocError) -> Self {
-        Self::Fault(Fault::NoMemory)
+        Self::ProgramFault(ProgramFault::NoMemory)
     }
 }
 
 impl From<RunFault> for Stop {
-    ghost from_gives = { λ why e. e ≡ stop.Fault (fault.Run why) };
+    ghost from_gives = { λ why e. e ≡ stop.ProgramFault (fault.Run why) };
 
     fn from(why: RunFault) -> Self {
-        Self::Fault(Fault::Run(why))
+        Self::ProgramFault(ProgramFault::Run(why))
     }
 }
 
-/// Prints the help or the version, or what is wrong with the words.
-fn ended_printed(rt: &HostRuntime, text: &Error) -> ExitCode {
+/// Prints the help or the version, or the message about wrong words.
+fn exit_with_help(rt: &HostRuntime, text: &Error) -> ExitCode {
     match text.print(rt) {
         Ok(()) if text.use_stderr() => ExitCode::from(2),
         Ok(()) => ExitCode::SUCCESS,
-        Err(_failed) => ended(rt, PROGRAM, Err(Fault::Output)),
+        Err(_failed) => exit_with(rt, PROGRAM, Err(ProgramFault::Output)),
     }
 }
 
-/// Says this on standard error, in a line of its own, and ends with this status.
-fn ended_said(rt: &HostRuntime, status: u8, told: &str) -> ExitCode {
+/// Writes a line on standard error, and ends with this status.
+fn exit_with_message(rt: &HostRuntime, status: u8, told: &str) -> ExitCode {
     let _ = eprintln!(rt; "agc_watch: {told}");
     ExitCode::from(status)
 }
 
-/// Says what is wrong with a document, and then for which fault it is refused.
-fn ended_wrong(rt: &HostRuntime, fault: BenchFault, told: &str) -> ExitCode {
-    for line in told.lines() {
-        let _ = eprintln!(rt; "agc_watch: {line}");
-    }
-    ended(rt, PROGRAM, Err(Fault::Bench(fault)))
+/// Reports the findings of an input that is refused.
+fn exit_with_findings(rt: &HostRuntime, findings: &str) -> ExitCode {
+    let _ = eprint!(rt; "{findings}");
+    ExitCode::from(1)
 }
 
-/// Says that a bench is too long for `agc`.
-fn ended_too_long(rt: &HostRuntime, bytes: u64) -> ExitCode {
+/// Reports that a bench is too long for `agc`.
+fn exit_too_long(rt: &HostRuntime, bytes: u64) -> ExitCode {
     let _ = eprintln!(rt; "agc_watch: the bench has {bytes} bytes, and agc takes {MOST_BYTES}");
     ExitCode::from(1)
 }
 
-/// Says why a command ended early, and how the program ends by that: with status 1 where its input
-/// is refused, or where `agc` doesn't take what was written.
-pub(crate) fn ended_early(rt: &HostRuntime, stop: &Stop) -> ExitCode {
+/// Reports why a command ended early, and ends the program: with status 1 if its input is refused,
+/// or if `agc` doesn't take the bench that was written.
+pub(crate) fn exit_early(rt: &HostRuntime, stop: &Stop) -> ExitCode {
     match stop {
-        Stop::Fault(fault) => ended(rt, PROGRAM, Err(*fault)),
-        Stop::Wrong(fault, told) => ended_wrong(rt, *fault, told.as_str()),
-        Stop::IsBench => ended_said(rt, 1, "this is a bench; a scenario has the key \"seconds\""),
-        Stop::IsScenario => ended_said(
-            rt,
-            1,
-            "this is a scenario, and a bench is wanted: agc_watch bench writes one",
-        ),
-        Stop::TooLong(bytes) => ended_too_long(rt, *bytes),
-        Stop::Words(text) => ended_printed(rt, text),
-        Stop::Said(status, told) => ended_said(rt, *status, told.as_str()),
+        Stop::ProgramFault(fault) => exit_with(rt, PROGRAM, Err(*fault)),
+        Stop::Findings(findings) => exit_with_findings(rt, findings.as_str()),
+        Stop::TooLong(bytes) => exit_too_long(rt, *bytes),
+        Stop::Words(text) => exit_with_help(rt, text),
+        Stop::Message(status, told) => exit_with_message(rt, *status, told.as_str()),
     }
 }

@@ -1,20 +1,20 @@
-//! Sweeps: which numbers of a scenario they exchange.
+//! Sweeps: the numbers of a scenario that they change.
 use crate::documents::scenario_in;
 use crate::program::Console;
 use crate::stops::Stop;
-use crate::words::{Sweep, Values, refused_words};
-use agc_check::add;
-use agc_peaks::{Axis, Column, find_alarm, run_sweep};
+use crate::words::{SweepOptions, Values, refused_words};
+use agc_check::{NamedText, add};
+use agc_peaks::{Axis, SweepParameter, find_alarm, run_sweep};
 use agc_scenario::{Scenario, TimedEvent, TimedJob};
 use agc_text::add_word;
 use arrayvec::ArrayString;
 use std::alloc::{AllocError, Global};
 use std::fmt::Write as Told;
 
-/// How many jobs and events are listed at most.
+/// The most jobs and the most events that are listed.
 const MOST_KEYS: usize = 20;
 
-/// Tells the key of a job's computing time, by its name or else its address.
+/// Adds the key of a job's computing time, by its name or, if it has none, its address.
 fn add_job(told: &mut String, job: &TimedJob) -> Result<(), AllocError> {
     let mut address: ArrayString<32> = ArrayString::new();
     add_word(&mut address, job.at().get());
@@ -22,7 +22,7 @@ fn add_job(told: &mut String, job: &TimedJob) -> Result<(), AllocError> {
     add(told, &[", job.", called, ".cost"])
 }
 
-/// Tells the keys of an event, if it has a name.
+/// Adds the keys of an event, if it has a name.
 fn add_event(told: &mut String, event: &TimedEvent) -> Result<(), AllocError> {
     let Some(name) = event.name() else {
         return Ok(());
@@ -34,7 +34,8 @@ fn add_event(told: &mut String, event: &TimedEvent) -> Result<(), AllocError> {
     }
 }
 
-/// Tells which keys of a scenario a sweep can take: at most so many of its jobs, and of its events.
+/// Adds the keys of a scenario that a sweep can take: for at most this many of its jobs, and of its
+/// events.
 fn add_keys(told: &mut String, scenario: &Scenario) -> Result<(), AllocError> {
     for job in scenario.timing().jobs().iter().take(MOST_KEYS) {
         add_job(told, job)?;
@@ -45,7 +46,7 @@ fn add_keys(told: &mut String, scenario: &Scenario) -> Result<(), AllocError> {
     Ok(())
 }
 
-/// Says that a key names no number of a scenario, and which do.
+/// Adds that a key names no number of a scenario, and the keys that do.
 fn add_unknown(told: &mut String, scenario: &Scenario, key: &str) -> Result<(), AllocError> {
     let begin = "' is no number of this scenario, which has sets, steal, seconds, seed";
     add(told, &["'", key, begin])?;
@@ -61,14 +62,14 @@ fn axis_of<'a>(alloc: Global, scenario: &Scenario, values: Values<'a>) -> Result
         to,
         step,
     } = values;
-    let added = match Column::named(scenario, key) {
+    let added = match SweepParameter::from_name(scenario, key) {
         None => add_unknown(&mut told, scenario, key),
-        Some(column) => {
-            let (least, most) = column.range();
+        Some(parameter) => {
+            let (least, most) = parameter.range();
             if least <= from && to <= most {
                 return Ok(Axis {
                     name: key,
-                    column,
+                    parameter,
                     from,
                     to,
                     step,
@@ -83,11 +84,11 @@ fn axis_of<'a>(alloc: Global, scenario: &Scenario, values: Values<'a>) -> Result
     }
 }
 
-/// Writes what comes of each value of a number of a scenario, or of two, or looks for one that
-/// raises an alarm. The exit status is 0.
+/// Runs a scenario for each value of a number, or of two, or looks for a value that raises an
+/// alarm. The exit status is 0.
 fn sweep_scenario(
     console: &mut Console<'_>,
-    asked: Sweep<'_>,
+    asked: SweepOptions<'_>,
     scenario: &mut Scenario,
 ) -> Result<u8, Stop> {
     let alloc = console.rt.alloc();
@@ -105,12 +106,12 @@ fn sweep_scenario(
     Ok(0)
 }
 
-/// Sweeps the scenario that a text is. The exit status is 0.
+/// Sweeps the scenario that an input is. The exit status is 0.
 pub(crate) fn write_sweep(
     console: &mut Console<'_>,
-    asked: Sweep<'_>,
-    text: &str,
+    asked: SweepOptions<'_>,
+    input: NamedText<'_>,
 ) -> Result<u8, Stop> {
-    let mut scenario = scenario_in(console.rt.alloc(), text)?;
+    let mut scenario = scenario_in(console.rt.alloc(), input)?;
     sweep_scenario(console, asked, &mut scenario)
 }

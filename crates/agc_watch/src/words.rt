@@ -1,16 +1,16 @@
-//! What the words of the command line ask for.
+//! Reading the words of the command line.
 use crate::commands::{named_command, whole_command};
-use crate::progress::Counted;
+use crate::progress::WorkUnit;
 use crate::stops::Stop;
-use agc_explore::{Manner, Options, Ticking};
+use agc_explore::{CallerRules, ExploreOptions, TickBounds};
 use agc_plan::Alarm;
-use agc_program::Fault;
-use agc_trace::{Choice, Form, Span};
+use agc_program::ProgramFault;
+use agc_trace::{TraceFormat, TraceOptions};
 use clap::error::ErrorKind;
 use clap::{ArgMatches, Command, Error};
 use std::alloc::Global;
 
-/// How many states a search may see, if nothing is said of it.
+/// The most states of a search, unless the words name another number.
 const STATES: u64 = 2_000_000;
 
 /// The values to try of the number that a key names.
@@ -22,65 +22,59 @@ pub(crate) struct Values<'a> {
     pub step: u64,
 }
 
-/// A sweep: the values of a number, and those of a second one, if there is one; whether the
-/// smallest that raises an alarm is looked for; and whether rows are written as comma-separated
-/// values.
+/// A sweep: the values of a number, and those of a second one, if there is one; whether it looks
+/// for the smallest that raises an alarm; and whether rows are comma-separated values.
 #[derive(Clone, Copy)]
-pub(crate) struct Sweep<'a> {
+pub(crate) struct SweepOptions<'a> {
     pub first: Values<'a>,
     pub second: Option<Values<'a>>,
     pub finds: bool,
     pub csv: bool,
 }
 
-/// What is to be shown of a bench or a scenario.
+/// A way to show a bench or a scenario.
 #[derive(Clone, Copy)]
-pub(crate) enum Show<'a> {
-    /// Its trace, of the requests that are chosen.
-    Trace(Choice),
-    Picture,
-    /// Its picture over time.
-    TimePicture(Span),
-    /// Its page, made of the workbench that is named, if one is.
-    Page(Option<&'a str>),
-    /// How full the tables were, era by era; as comma-separated values, if so.
+pub(crate) enum Show {
+    /// The trace of the requests that are chosen.
+    Trace(TraceOptions),
+    /// How full the tables were, era by era, as comma-separated values or not.
     Peaks(bool),
-    /// What its jobs came to; as comma-separated values, if so.
+    /// The statistics of its jobs, as comma-separated values or not.
     Jobs(bool),
 }
 
-/// What the program is to do, and of which kind its input is.
+/// A task for the program, and the kind of its input.
 #[derive(Clone, Copy)]
-pub(crate) enum Task<'a> {
+pub(crate) enum Subcommand<'a> {
     /// To show a bench or a scenario.
-    Show(Show<'a>),
-    /// To say what is wrong with a bench or a scenario.
+    Show(Show),
+    /// To write the page of a bench or a scenario, made of the workbench that is named, if one is.
+    Page(Option<&'a str>),
+    /// To report the findings of a bench or a scenario.
     Check,
     /// To write the trace of a script.
-    TraceScript(Choice),
-    /// To say what is wrong with a script.
+    TraceScript(TraceOptions),
+    /// To report the findings of a script.
     CheckScript,
-    /// To say what all orders of a bench come to.
-    Explore(Options),
-    /// To answer lines from a bench on.
+    /// To search all orders of a bench.
+    Explore(ExploreOptions),
+    /// To play, from a bench on.
     Play,
-    /// To write the bench that a scenario comes to.
+    /// To write a scenario as a bench.
     Bench,
-    /// To say what comes of a scenario for each value of a number, or of two.
-    Sweep(Sweep<'a>),
-    /// To say what differs from the document of this name.
+    /// To run a scenario for each value of a number, or of two.
+    Sweep(SweepOptions<'a>),
+    /// To write the differences from the document of this name.
     Compare(&'a str),
-    /// To say what the memory of a real computer holds, by the map in this file.
-    Core(&'a str),
 }
 
-impl Task<'_> {
-    /// What is counted of it.
-    pub(crate) fn counted(&self) -> Counted {
+impl Subcommand<'_> {
+    /// The things that are counted in it.
+    pub(crate) fn work_unit(&self) -> WorkUnit {
         match self {
-            Task::Sweep(_asked) => Counted::Runs,
-            Task::Explore(_options) => Counted::States,
-            _ => Counted::Requests,
+            Subcommand::Sweep(_asked) => WorkUnit::Runs,
+            Subcommand::Explore(_options) => WorkUnit::States,
+            _ => WorkUnit::Requests,
         }
     }
 }
@@ -91,21 +85,30 @@ pub(crate) enum Input<'a> {
     Standard,
     /// A file of this name.
     File(&'a str),
-    /// Nowhere: it is the bench without requests.
+    /// No file: the bench without requests.
     Empty,
 }
 
-/// What the program is asked for.
+impl<'a> Input<'a> {
+    /// The name of its file, or `-`.
+    pub(crate) fn name(self) -> &'a str {
+        match self {
+            Input::File(name) => name,
+            Input::Standard | Input::Empty => "-",
+        }
+    }
+}
+
+/// A command line, as it was read.
 #[derive(Clone, Copy)]
-pub(crate) struct Asked<'a> {
-    pub task: Task<'a>,
+pub(crate) struct Invocation<'a> {
+    pub subcommand: Subcommand<'a>,
     pub input: Input<'a>,
-    /// Progress is reported on standard error.
+    /// Whether progress is reported on standard error.
     pub has_progress: bool,
 }
 
-/// The number that a part of seconds is; nothing, if it has another letter than a digit, or is too
-/// long.
+/// The number that a text is; None if it isn't all digits, or is too long.
 fn number_of(digits: &str) -> Option<u64> {
     let is_decimal = digits.as_bytes().iter().all(u8::is_ascii_digit);
     if is_decimal && digits.len() <= 12 {
@@ -115,27 +118,7 @@ fn number_of(digits: &str) -> Option<u64> {
     }
 }
 
-/// The centiseconds that a text of seconds says, with at most two decimals.
-fn centiseconds_of(text: &str) -> Option<u64> {
-    let (whole, rest) = text.split_once('.').unwrap_or((text, "00"));
-    let times = match rest.len() {
-        1 => 10,
-        2 => 1,
-        _ => return None,
-    };
-    match (number_of(whole), number_of(rest)) {
-        (Some(whole), Some(rest)) => {
-            Some(
-                whole
-                    .saturating_mul(100)
-                    .saturating_add(rest.saturating_mul(times)),
-            )
-        }
-        _ => None,
-    }
-}
-
-/// The values that a text says, as `KEY:FROM:TO` or `KEY:FROM:TO:STEP`.
+/// The values of a text, such as `KEY:FROM:TO` or `KEY:FROM:TO:STEP`.
 fn values_of(text: &str) -> Option<Values<'_>> {
     let (front, last) = text.rsplit_once(':')?;
     let (key, before) = front.rsplit_once(':')?;
@@ -150,7 +133,7 @@ fn values_of(text: &str) -> Option<Values<'_>> {
     }
 }
 
-/// These values of the number that a key names.
+/// The values of a key's number, from one to another by steps.
 fn values_from(key: &str, from: u64, to: u64, step: u64) -> Values<'_> {
     Values {
         key,
@@ -169,7 +152,7 @@ fn file_of(word: Option<&str>) -> Option<&str> {
 }
 
 /// The words after a command, the file that they name, and the first reason why they are wrong, if
-/// they are.
+/// there is one.
 #[derive(Drop)]
 struct Words<'a, 'b> {
     given: &'b ArgMatches<'a>,
@@ -178,14 +161,14 @@ struct Words<'a, 'b> {
 }
 
 impl<'a, 'b> Words<'a, 'b> {
-    /// Notes this reason, unless all is right, or another reason came before.
+    /// Notes a reason unless the check succeeds, or there was a reason before.
     fn check(&mut self, is_right: bool, reason: &'static str) {
         if !is_right && self.wrong.is_none() {
             self.wrong = Some(reason);
         }
     }
 
-    /// The number of an option, if it is given; else nothing is noted, but of what is no number.
+    /// The number of an option, if it is given. A text that is no number is noted.
     fn number(&mut self, name: &str, reason: &'static str) -> Option<u64> {
         let number = self.given.get_one::<u64>(name);
         let is_given = self.given.get_str(name).is_some();
@@ -193,19 +176,11 @@ impl<'a, 'b> Words<'a, 'b> {
         number
     }
 
-    /// The number that has to be given.
+    /// The number of an option that is required.
     fn bound(&mut self, name: &str, reason: &'static str) -> u64 {
         let number = self.given.get_one::<u64>(name);
         self.check(number.is_some(), reason);
         number.unwrap_or(0)
-    }
-
-    /// The centiseconds of an option, if it is given.
-    fn seconds(&mut self, name: &str, reason: &'static str) -> Option<u64> {
-        let text = self.given.get_str(name);
-        let time = text.and_then(centiseconds_of);
-        self.check(time.is_some() || text.is_none(), reason);
-        time
     }
 
     /// The alarm that an option names, if it is given.
@@ -222,29 +197,29 @@ impl<'a, 'b> Words<'a, 'b> {
         alarm
     }
 
-    /// In which form a trace is written.
-    fn form(&mut self) -> Form {
+    /// The form of a trace.
+    fn form(&mut self) -> TraceFormat {
         let csv = self.given.get_flag("csv");
         let json = self.given.get_flag("json");
         match (csv, json, self.given.get_flag("perfetto")) {
-            (false, false, false) => Form::Lines,
-            (true, false, false) => Form::Csv,
-            (false, true, false) => Form::Json,
-            (false, false, true) => Form::Chart,
+            (false, false, false) => TraceFormat::Lines,
+            (true, false, false) => TraceFormat::Csv,
+            (false, true, false) => TraceFormat::Json,
+            (false, false, true) => TraceFormat::Chart,
             _ => {
                 self.check(false, "a trace has one form");
-                Form::Lines
+                TraceFormat::Lines
             }
         }
     }
 
-    /// What the words after `trace` ask for.
-    fn trace(&mut self) -> Task<'a> {
+    /// Reads the words after `trace`.
+    fn trace(&mut self) -> Subcommand<'a> {
         let from = self.number("from", "--from wants a number");
         let to = self.number("to", "--to wants a number");
         let is_right = from.unwrap_or(0) <= to.unwrap_or(u64::MAX);
         self.check(is_right, "--from is beyond --to");
-        let choice = Choice {
+        let choice = TraceOptions {
             form: self.form(),
             alarms: self.given.get_flag("alarms"),
             from,
@@ -252,31 +227,13 @@ impl<'a, 'b> Words<'a, 'b> {
             brief: self.given.get_flag("brief"),
         };
         let is_chosen = choice.alarms || choice.brief;
-        let is_right = choice.form != Form::Chart || !is_chosen;
+        let is_right = choice.form != TraceFormat::Chart || !is_chosen;
         self.check(is_right, "--perfetto goes without --alarms and --brief");
         if self.given.get_flag("script") {
-            Task::TraceScript(choice)
+            Subcommand::TraceScript(choice)
         } else {
-            Task::Show(Show::Trace(choice))
+            Subcommand::Show(Show::Trace(choice))
         }
-    }
-
-    /// What the words after `picture` ask for.
-    fn picture(&mut self) -> Show<'a> {
-        let width = self.number("width", "--width wants a number");
-        let from = self.seconds("from", "--from is seconds, such as 12.5");
-        let to = self.seconds("to", "--to is seconds, such as 12.5");
-        if !self.given.get_flag("time") {
-            self.check(width.is_none(), "--width goes with --time");
-            self.check(from.is_none(), "--from goes with --time");
-            self.check(to.is_none(), "--to goes with --time");
-            return Show::Picture;
-        }
-        let (width, from) = (width.unwrap_or(1600), from.unwrap_or(0));
-        self.check((1200..=10_000).contains(&width), "--width is 1200 to 10000");
-        let is_right = from < to.unwrap_or(u64::MAX);
-        self.check(is_right, "--to is not beyond --from");
-        Show::TimePicture(Span { width, from, to })
     }
 
     /// A number of requests, if it is given.
@@ -287,31 +244,26 @@ impl<'a, 'b> Words<'a, 'b> {
         short
     }
 
-    /// How many requests come between two ticks.
-    fn ticking(&mut self) -> Ticking {
+    /// The number of requests between two ticks.
+    fn ticks(&mut self) -> TickBounds {
         let least = self.requests("least", "--least is a number up to 65535");
         let most = self.requests("most", "--most is a number up to 65535");
         let least = least.unwrap_or(0);
         let is_right = least <= most.unwrap_or(u16::MAX);
         self.check(is_right, "--least is beyond --most");
-        Ticking { least, most }
+        TickBounds { least, most }
     }
 
-    /// What the words after `explore` ask for.
-    fn explore(&mut self) -> Options {
+    /// Reads the words after `explore`.
+    fn explore(&mut self) -> ExploreOptions {
         let repeats = self.given.get_flag("repeat");
         let states = self.number("states", "--states wants a number");
         let (bench, csv) = (self.alarm("bench"), self.given.get_flag("csv"));
         self.check(bench.is_none() || !csv, "--bench and --csv are two outputs");
-        Options {
+        ExploreOptions {
             states: states.unwrap_or(STATES),
             alarm: self.alarm("alarm"),
-            manner: Manner {
-                through: self.given.get_flag("through"),
-                repeats,
-                again: [repeats; 35],
-                ticking: self.ticking(),
-            },
+            rules: CallerRules::new(self.given.get_flag("through"), repeats, self.ticks()),
             peaks: self.given.get_flag("peaks"),
             bench,
             csv,
@@ -356,13 +308,13 @@ impl<'a, 'b> Words<'a, 'b> {
         values
     }
 
-    /// What the words after `sweep` ask for.
-    fn sweep(&mut self) -> Sweep<'a> {
+    /// Reads the words after `sweep`.
+    fn sweep(&mut self) -> SweepOptions<'a> {
         let first = self.first_values();
         let second = self.second_values(first.key);
         let finds = self.given.get_flag("find");
         self.check(second.is_none() || !finds, "--find goes without --and");
-        Sweep {
+        SweepOptions {
             first,
             second,
             finds,
@@ -370,45 +322,43 @@ impl<'a, 'b> Words<'a, 'b> {
         }
     }
 
-    /// What the words after `compare` ask for: one of both documents may be standard input.
-    fn compare(&mut self) -> Task<'a> {
+    /// Reads the words after `compare`: one of the two documents may be standard input.
+    fn compare(&mut self) -> Subcommand<'a> {
         let second = self.given.get_str("second").unwrap_or("-");
         let is_named = self.file.is_some() || second != "-";
         self.check(is_named, "FIRST and SECOND can't both be standard input");
-        Task::Compare(second)
+        Subcommand::Compare(second)
     }
 
-    /// What the words after a command of this name ask for.
-    fn task(&mut self, command: &str) -> Task<'a> {
+    /// Reads the words after the name of a command.
+    fn subcommand(&mut self, command: &str) -> Subcommand<'a> {
         match command {
             "trace" => self.trace(),
-            "picture" => Task::Show(self.picture()),
-            "page" => Task::Show(Show::Page(self.given.get_str("workbench"))),
-            "check" if self.given.get_flag("script") => Task::CheckScript,
-            "check" => Task::Check,
-            "explore" => Task::Explore(self.explore()),
-            "bench" => Task::Bench,
-            "peaks" => Task::Show(Show::Peaks(self.given.get_flag("csv"))),
-            "jobs" => Task::Show(Show::Jobs(self.given.get_flag("csv"))),
-            "sweep" => Task::Sweep(self.sweep()),
-            "core" => Task::Core(self.given.get_str("map").unwrap_or("")),
+            "page" => Subcommand::Page(self.given.get_str("workbench")),
+            "check" if self.given.get_flag("script") => Subcommand::CheckScript,
+            "check" => Subcommand::Check,
+            "explore" => Subcommand::Explore(self.explore()),
+            "bench" => Subcommand::Bench,
+            "peaks" => Subcommand::Show(Show::Peaks(self.given.get_flag("csv"))),
+            "jobs" => Subcommand::Show(Show::Jobs(self.given.get_flag("csv"))),
+            "sweep" => Subcommand::Sweep(self.sweep()),
             "compare" => self.compare(),
-            _ => Task::Play,
+            _ => Subcommand::Play,
         }
     }
 }
 
 /// The input of a task, of the file that is named, if one is.
-fn input_of<'a>(task: Task<'_>, file: Option<&'a str>) -> Input<'a> {
-    match (file, task) {
+fn input_of<'a>(subcommand: Subcommand<'_>, file: Option<&'a str>) -> Input<'a> {
+    match (file, subcommand) {
         (Some(name), _) => Input::File(name),
-        (None, Task::Play) => Input::Empty,
+        (None, Subcommand::Play) => Input::Empty,
         (None, _) => Input::Standard,
     }
 }
 
-/// What a command line asks for that `clap` takes.
-fn asked_by<'a>(alloc: Global, matches: &ArgMatches<'a>) -> Result<Asked<'a>, Stop> {
+/// Reads a command line that `clap` takes.
+fn parse_matches<'a>(alloc: Global, matches: &ArgMatches<'a>) -> Result<Invocation<'a>, Stop> {
     let Some((command, given)) = matches.subcommand() else {
         return Err(refused_words(alloc, "", "a command is missing"));
     };
@@ -417,12 +367,12 @@ fn asked_by<'a>(alloc: Global, matches: &ArgMatches<'a>) -> Result<Asked<'a>, St
         file: file_of(given.get_str("file")),
         wrong: None,
     };
-    let task = words.task(command);
+    let subcommand = words.subcommand(command);
     match words.wrong {
         Some(reason) => Err(refused_words(alloc, command, reason)),
-        None => Ok(Asked {
-            task,
-            input: input_of(task, words.file),
+        None => Ok(Invocation {
+            subcommand,
+            input: input_of(subcommand, words.file),
             has_progress: given.get_flag("progress"),
         }),
     }
@@ -432,7 +382,7 @@ fn asked_by<'a>(alloc: Global, matches: &ArgMatches<'a>) -> Result<Asked<'a>, St
 pub(crate) fn refused_words(alloc: Global, command: &str, reason: &str) -> Stop {
     match named_command(alloc, command) {
         Ok(mut command) => refused_as(&mut command, reason),
-        Err(_no_memory) => Stop::Fault(Fault::NoMemory),
+        Err(_no_memory) => Stop::ProgramFault(ProgramFault::NoMemory),
     }
 }
 
@@ -440,39 +390,39 @@ pub(crate) fn refused_words(alloc: Global, command: &str, reason: &str) -> Stop 
 fn refused_as(command: &mut Command<'_>, reason: &str) -> Stop {
     match command.error(ErrorKind::ValueValidation, reason) {
         Ok(error) => Stop::Words(error),
-        Err(_no_memory) => Stop::Fault(Fault::NoMemory),
+        Err(_no_memory) => Stop::ProgramFault(ProgramFault::NoMemory),
     }
 }
 
 /// Words that `clap` doesn't take as a task.
 fn refused_by(error: Error) -> Stop {
     match error.kind() {
-        ErrorKind::OutOfMemory => Stop::Fault(Fault::NoMemory),
+        ErrorKind::OutOfMemory => Stop::ProgramFault(ProgramFault::NoMemory),
         _ => Stop::Words(error),
     }
 }
 
-/// What this program takes these words for.
+/// Reads these words.
 fn read<'a>(
     alloc: Global,
     program: &mut Command<'a>,
     words: &'a [String],
-) -> Result<Asked<'a>, Stop> {
+) -> Result<Invocation<'a>, Stop> {
     match program.try_get_matches_from_mut(words) {
-        Ok(matches) => asked_by(alloc, &matches),
+        Ok(matches) => parse_matches(alloc, &matches),
         Err(error) => Err(refused_by(error)),
     }
 }
 
-/// What the words of a command line ask for, of which the first is the program's own name.
+/// Reads the words of a command line. The first is the program's own name.
 ///
 /// # Errors
 ///
 /// `Words` for those that ask for a text, the help or the version, and for wrong ones; and that
 /// there is no memory.
-pub(crate) fn asked_for<'a>(alloc: Global, words: &'a [String]) -> Result<Asked<'a>, Stop> {
+pub(crate) fn parse_words<'a>(alloc: Global, words: &'a [String]) -> Result<Invocation<'a>, Stop> {
     match whole_command(alloc) {
         Ok(mut command) => read(alloc, &mut command, words),
-        Err(_no_memory) => Err(Stop::Fault(Fault::NoMemory)),
+        Err(_no_memory) => Err(Stop::ProgramFault(ProgramFault::NoMemory)),
     }
 }

@@ -1,9 +1,8 @@
 //! The workbench, a file that a page is made of: where it is, and whether it is of this version.
 use crate::commands::VERSION;
 use crate::files::{read_file, unread};
-use crate::stops::Stop;
-use agc_check::add;
-use agc_program::Fault;
+use crate::stops::{Stop, join_words, stop_with};
+use agc_program::ProgramFault;
 use agc_text::{ReadFault, read_all};
 use std::alloc::{AllocError, Global};
 use std::env;
@@ -20,35 +19,20 @@ pub(crate) struct Workbench {
     text: String,
 }
 
-/// These words as a text.
-fn joined(alloc: Global, words: &[&str]) -> Result<String, AllocError> {
-    let mut text = String::new(alloc);
-    add(&mut text, words)?;
-    Ok(text)
-}
-
-/// An end with this status, for which these words give the reason.
-fn said(alloc: Global, status: u8, words: &[&str]) -> Stop {
-    match joined(alloc, words) {
-        Ok(told) => Stop::Said(status, told),
-        Err(_no_memory) => Stop::Fault(Fault::NoMemory),
-    }
-}
-
 /// The files where the workbench may be if none is named: beside the program, and where
 /// `make install` puts it.
 fn places_of(alloc: Global, program: &str) -> Result<Vec<String>, AllocError> {
     let mut places = Vec::new(alloc);
     if let Some((folder, _name)) = program.rsplit_once('/') {
-        places.push(joined(alloc, &[folder, "/workbench.html"])?)?;
+        places.push(join_words(alloc, &[folder, "/workbench.html"])?)?;
         if let Some((above, _bin)) = folder.rsplit_once('/') {
-            places.push(joined(alloc, &[above, "/share/agc/workbench.html"])?)?;
+            places.push(join_words(alloc, &[above, "/share/agc/workbench.html"])?)?;
         }
     }
     Ok(places)
 }
 
-/// The same; none, if the system doesn't tell where the program is.
+/// The places beside the program; none, if the system doesn't tell where the program is.
 fn places(rt: &HostRuntime) -> Result<Vec<String>, AllocError> {
     match env::current_exe(rt) {
         Ok(program) => places_of(rt.alloc(), program.as_str()),
@@ -67,18 +51,18 @@ fn missing(alloc: Global, places: &[String]) -> Stop {
     let begin = "no workbench";
     let end = ": name one by --workbench or AGC_WORKBENCH";
     match places {
-        [] => said(alloc, 4, &[begin, end]),
-        [only] => said(alloc, 4, &[begin, " at ", only.as_str(), end]),
+        [] => stop_with(alloc, 4, &[begin, end]),
+        [only] => stop_with(alloc, 4, &[begin, " at ", only.as_str(), end]),
         [first, second, ..] => {
             let words = [begin, " at ", first.as_str(), " or ", second.as_str(), end];
-            said(alloc, 4, &words)
+            stop_with(alloc, 4, &words)
         }
     }
 }
 
 /// That the file of this name is no workbench.
 fn not_one(alloc: Global, name: &str) -> Stop {
-    said(alloc, 1, &[name, " is not an empty AGC workbench"])
+    stop_with(alloc, 1, &[name, " is not an empty AGC workbench"])
 }
 
 /// Whether a text is of digits and dots alone.
@@ -91,8 +75,8 @@ fn is_version(text: &str) -> bool {
     true
 }
 
-/// The version behind this front of a text, up to the next blank. None where the front comes again,
-/// as in two files that are joined.
+/// The version after this front of a text, up to the next blank. None if the front comes again, as
+/// in two files that are joined.
 fn version_behind<'a>(front: &str, text: &'a str) -> Option<&'a str> {
     match text.strip_prefix(front)?.split_once(' ') {
         Some((version, rest)) if is_version(version) && !rest.contains(front) => Some(version),
@@ -110,7 +94,7 @@ fn check_version(alloc: Global, name: &str, text: &str) -> Result<(), Stop> {
             }
             let is = " is the workbench of version ";
             let words = [name, is, version, ", and this is version ", VERSION];
-            Err(said(alloc, 1, &words))
+            Err(stop_with(alloc, 1, &words))
         }
     }
 }
@@ -121,10 +105,10 @@ fn workbench_of(alloc: Global, name: &str, bytes: &[u8]) -> Result<Workbench, St
     match read_all(alloc, &mut unread) {
         Ok(text) => {
             check_version(alloc, name, text.as_str())?;
-            let name = joined(alloc, &[name])?;
+            let name = join_words(alloc, &[name])?;
             Ok(Workbench { name, text })
         }
-        Err(ReadFault::NoMemory) => Err(Stop::Fault(Fault::NoMemory)),
+        Err(ReadFault::NoMemory) => Err(Stop::ProgramFault(ProgramFault::NoMemory)),
         Err(_) => Err(not_one(alloc, name)),
     }
 }
@@ -156,13 +140,13 @@ fn placed_workbench(rt: &HostRuntime) -> Result<Workbench, Stop> {
 impl Workbench {
     /// The workbench that is named, or else by the variable `AGC_WORKBENCH`, or else the one that
     /// goes with the program.
-    pub(crate) fn found(rt: &HostRuntime, named: Option<&str>) -> Result<Workbench, Stop> {
+    pub(crate) fn find(rt: &HostRuntime, named: Option<&str>) -> Result<Workbench, Stop> {
         if let Some(name) = named {
             return named_workbench(rt, name);
         }
         match env::var(rt, "AGC_WORKBENCH") {
             Ok(name) => named_workbench(rt, name.as_str()),
-            Err(VarError::OutOfMemory) => Err(Stop::Fault(Fault::NoMemory)),
+            Err(VarError::OutOfMemory) => Err(Stop::ProgramFault(ProgramFault::NoMemory)),
             Err(_) => placed_workbench(rt),
         }
     }

@@ -7,7 +7,7 @@ use crate::word::Word;
 use std::marker::Model;
 
 /// The words of erasable memory that the model has, by place, from 0: 132 with seven core sets, 144
-/// with eight. Contracts see them as the list of their bits. Source: profile.
+/// with eight. Contracts see them as the list of their bits.
 #[derive(Drop)]
 pub struct Erasable {
     sets: Sets,
@@ -28,7 +28,7 @@ impl Model for Erasable {
 }
 
 impl Erasable {
-    /// The words of so many core sets, all 00000. Source: profile.
+    /// The words of so many core sets, all 00000.
     pub fn new(sets: Sets) -> Erasable
         ensures { result ≡ replicate (size_of sets) 0 }
     {
@@ -38,7 +38,7 @@ impl Erasable {
         }
     }
 
-    /// How many core sets the words have. Source: profile.
+    /// How many core sets the words have.
     pub fn sets(&self) -> Sets
         ensures count { count_of result ≡ sets_in self.now }
         ensures all { IsSized self.now }
@@ -48,7 +48,6 @@ impl Erasable {
     }
 
     /// The word at a place, which must be below 132 with seven core sets, below 144 with eight.
-    /// Source: profile.
     pub fn get(&self, place: usize) -> Word
         requires { place < places_in self.now }
         ensures value { result ≡ slice_index self.now place }
@@ -62,7 +61,7 @@ impl Erasable {
     }
 
     /// Sets the word at a place, which must be below 132 with seven core sets, below 144 with
-    /// eight. No other word changes. Source: profile.
+    /// eight. No other word changes.
     pub fn set(&mut self, place: usize, word: Word)
         requires { place < places_in self.old }
         ensures value { self.new ≡ slice_set self.old place word }
@@ -72,7 +71,7 @@ impl Erasable {
         words[place] = word;
     }
 
-    /// All words, by place; with seven core sets the last twelve are 00000. Source: profile.
+    /// All words, by place; with seven core sets the last twelve are 00000.
     pub fn words(&self) -> [Word; 144]
         ensures words { result ≡ padded self.now }
         ensures all { IsSized self.now }

@@ -6,7 +6,7 @@ ghost use Rattle.agc_word.specs.Layout.{set_place, use_place, address_of, area_o
 /// How many words a core set has: MPAC to MPAC+6, MODE, LOC, BANKSET, PUSHLOC, PRIORITY.
 pub const SET_SIZE: usize = 12;
 
-/// How many words all other tables have together. Source: profile.
+/// How many words all other tables have together.
 pub const OTHERS_SIZE: usize = 48;
 
 /// The first of the five use words of the VAC areas, after core sets 0 to 6.
@@ -33,7 +33,7 @@ pub const FAILREG: usize = 129;
 /// Core set 7, of eight; with seven sets the end.
 pub const LAST_SET: usize = 132;
 
-/// The first place of core set k, from 0: set 7 stands after all other tables. Source: profile.
+/// The first place of core set k, from 0: set 7 stands after all other tables.
 pub fn set_place(k: usize) -> usize
     requires { k ≤ 7 }
     ensures { result ≡ set_place k }
@@ -41,7 +41,7 @@ pub fn set_place(k: usize) -> usize
     if k < 7 { SET_SIZE * k } else { LAST_SET }
 }
 
-/// The place of the use word of an area, 1 to 5. Source: profile.
+/// The place of the use word of an area, 1 to 5.
 pub fn use_place(area: usize) -> usize
     requires { (1 ≤ area) × (area ≤ 5) }
     ensures { result ≡ use_place area }
@@ -49,14 +49,13 @@ pub fn use_place(area: usize) -> usize
     USE_WORDS + area - 1
 }
 
-/// The address of VAC area 1. Source: profile.
+/// The address of VAC area 1.
 pub const FIRST_AREA: u16 = 0o300;
 
 /// How far a VAC area is from the next. Source: the listings' erasable assignments.
 pub const AREA_SIZE: u16 = 0o54;
 
-/// The address of a VAC area, 1 to 5: 0300, 0354, 0430, 0504 or 0560 octal; 0 for no area. Source:
-/// profile.
+/// The address of a VAC area, 1 to 5: 0300, 0354, 0430, 0504 or 0560 octal; 0 for no area.
 pub fn address_of(area: u16) -> u16
     requires { area ≤ 5 }
     ensures { result ≡ address_of area }
@@ -68,7 +67,7 @@ pub fn address_of(area: u16) -> u16
     }
 }
 
-/// The VAC area at an address; 0 for address 0. Source: profile.
+/// The VAC area at an address; 0 for address 0.
 pub fn area_of(address: u16) -> u16
     ensures { result ≡ area_of address }
 {

@@ -1,8 +1,7 @@
 ghost use Rattle.std.specs.Prelude.{◌≡◌};
 ghost use Rattle.agc_word.specs.Profiles.{count_of};
 
-/// How many core sets a computer has, which says how many words its erasable memory has. Source:
-/// profile.
+/// How many core sets a computer has, which says how many words its erasable memory has.
 #[derive(Clone, Copy, PartialEq, Eq)]
 pub enum Sets {
     /// Seven core sets, 132 words.

@@ -153,7 +153,7 @@ impl Word {
     }
 }
 
-/// The default is plus zero, 00000. Source: profile.
+/// The default is plus zero, 00000.
 impl Default for Word {
     ghost is_default = { λ w. w ≡ 0 };
 

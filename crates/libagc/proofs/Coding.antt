@@ -5,17 +5,17 @@ use Rattle.std.specs.Option.{is_some}
 use Rattle.agc_plan.specs.declared.request.Request.{Request}
 use Rattle.agc_wait.specs.Table.{waits_of}
 use Rattle.agc_wait.specs.Waits.{is_due}
-use Rattle.agc_image.specs.declared.asked.AgcRequest.{AgcRequest}
+use Rattle.agc_image.specs.declared.requests.AgcRequest.{AgcRequest}
 use Rattle.agc_image.specs.declared.fault.Fault.{Fault}
-use Rattle.agc_image.specs.declared.lent.AgcPhaseEntry.{AgcPhaseEntry}
-use Rattle.agc_image.specs.declared.lent.AgcRow.{AgcRow}
-use Rattle.agc_image.specs.Asked.{request_told, asked_fault}
+use Rattle.agc_image.specs.declared.borrowed_plan.AgcPhaseEntry.{AgcPhaseEntry}
+use Rattle.agc_image.specs.declared.borrowed_plan.AgcRow.{AgcRow}
+use Rattle.agc_image.specs.Requests.{request_from_c, request_fault}
 use Rattle.agc_image.specs.Codes.{Coded, code_of, code_for}
 use Rattle.agc_image.specs.Images.{IsImage, image_of}
 use Rattle.agc_image.specs.Lacking.{lacking}
 use Rattle.agc_image.proofs.Codes.{coded_served}
 use Rattle.agc_machine.specs.Stands.{IsReady}
-use Rattle.libagc.specs.Stepping.{first_of, asked_code, Timed, Lacks, ImageThen, StepCoded}
+use Rattle.libagc.specs.Stepping.{first_of, request_code, Timed, Lacks, ImageThen, StepCoded}
 use Rattle.libagc.proofs.Serving.{one_or_more}
 
 -- words that each step leaves
@@ -47,23 +47,23 @@ timed_untidy words answer test off none = record {
 pub first_now : (a b : ℕ) → 1 ≤ a → a ≡ first_of a b
 first_now a b some = grind (arith, common_steps)
 
-pub asked_lacks : (asked : AgcRequest) → request_told asked ≡ None → asked_code asked ≡ code_of (asked_fault asked)
-asked_lacks asked is = ap (λ (o : Option Request). if is_some o then 0 else code_of (asked_fault asked)) is
+pub asked_lacks : (asked : AgcRequest) → request_from_c asked ≡ None → request_code asked ≡ code_of (request_fault asked)
+asked_lacks asked is = ap (λ (o : Option Request). if is_some o then 0 else code_of (request_fault asked)) is
 
-pub asked_is : (asked : AgcRequest) (request : Request) → request_told asked ≡ Some request → asked_code asked ≡ 0
-asked_is asked request is = ap (λ (o : Option Request). if is_some o then 0 else code_of (asked_fault asked)) is
+pub asked_is : (asked : AgcRequest) (request : Request) → request_from_c asked ≡ Some request → request_code asked ≡ 0
+asked_is asked request is = ap (λ (o : Option Request). if is_some o then 0 else code_of (request_fault asked)) is
 
 -- the array has no image
 pub no_image_then : (found : Option Fault) (this : Fault) (code sets : ℕ) (array : List ℕ) (other : ℕ) → found ≡ Some this → code ≡ code_of this → Coded (code_for found) sets array (Unit {0}) (Unit {0}) (Unit {0}) → ImageThen code sets array other
-no_image_then found this code sets array other is told coded = record {
+no_image_then found this code sets array other is reply_to_c coded = record {
   image = code_of this;
   image_is = subst (λ (n : ℕ). Coded n sets array (Unit {0}) (Unit {0}) (Unit {0})) (ap code_for is) coded;
-  first = told ∙ first_now (code_of this) other (one_or_more this);
+  first = reply_to_c ∙ first_now (code_of this) other (one_or_more this);
 }
 
 -- no image for a step
 pub step_no_image : (found : Option Fault) (this : Fault) (code sets : ℕ) (array : List ℕ) (asked : AgcRequest) (plan : ℕ) → found ≡ Some this → code ≡ code_of this → Coded (code_for found) sets array (Unit {0}) (Unit {0}) (Unit {0}) → StepCoded code sets array asked plan
-step_no_image found this code sets array asked plan is told coded =
+step_no_image found this code sets array asked plan is reply_to_c coded =
     let here : Coded (code_of this) sets array (Unit {0}) (Unit {0}) (Unit {0}) = subst (λ (n : ℕ). Coded n sets array (Unit {0}) (Unit {0}) (Unit {0})) (ap code_for is) coded in
     let some : 1 ≤ code_of this = one_or_more this in
     record {
@@ -72,27 +72,27 @@ step_no_image found this code sets array asked plan is told coded =
       first = record {
         image = code_of this;
         image_is = here;
-        first = told ∙ first_now (code_of this) (first_of (asked_code asked) (first_of 0 plan)) some;
+        first = reply_to_c ∙ first_now (code_of this) (first_of (request_code asked) (first_of 0 plan)) some;
       };
     }
 
 -- the numbers are no request
-pub step_no_request : (code sets : ℕ) (array : List ℕ) (asked : AgcRequest) (plan : ℕ) → IsImage sets array → request_told asked ≡ None → code ≡ code_of (asked_fault asked) → StepCoded code sets array asked plan
-step_no_request code sets array asked plan image none told =
-    let same : asked_code asked ≡ code_of (asked_fault asked) = asked_lacks asked none in
-    let some : 1 ≤ code_of (asked_fault asked) = one_or_more (asked_fault asked) in
+pub step_no_request : (code sets : ℕ) (array : List ℕ) (asked : AgcRequest) (plan : ℕ) → IsImage sets array → request_from_c asked ≡ None → code ≡ code_of (request_fault asked) → StepCoded code sets array asked plan
+step_no_request code sets array asked plan image none reply_to_c =
+    let same : request_code asked ≡ code_of (request_fault asked) = asked_lacks asked none in
+    let some : 1 ≤ code_of (request_fault asked) = one_or_more (request_fault asked) in
     record {
       time = 0;
-      timed = λ image zero. absurd (let no : code_of (asked_fault asked) ≡ 0 = sym same ∙ zero in omega (arith, some, no));
+      timed = λ image zero. absurd (let no : code_of (request_fault asked) ≡ 0 = sym same ∙ zero in omega (arith, some, no));
       first = record {
         image = 0;
         image_is = coded_served sets array _ _ _ image tt tt tt;
-        first = told ∙ subst (λ (n : ℕ). code_of (asked_fault asked) ≡ first_of n (first_of 0 plan)) (sym same) (first_now (code_of (asked_fault asked)) (first_of 0 plan) some);
+        first = reply_to_c ∙ subst (λ (n : ℕ). code_of (request_fault asked) ≡ first_of n (first_of 0 plan)) (sym same) (first_now (code_of (request_fault asked)) (first_of 0 plan) some);
       };
     }
 
 -- there are both, and so what else it may lack tells the code
-pub step_lacks : (code sets : ℕ) (array words : List ℕ) (asked : AgcRequest) (request : Request) (rows : List AgcRow) (entries : List AgcPhaseEntry) → IsImage sets array → request_told asked ≡ Some request → words ≡ image_of sets array → Lacks code words rows entries → StepCoded code sets array asked (code_for (lacking rows entries))
+pub step_lacks : (code sets : ℕ) (array words : List ℕ) (asked : AgcRequest) (request : Request) (rows : List AgcRow) (entries : List AgcPhaseEntry) → IsImage sets array → request_from_c asked ≡ Some request → words ≡ image_of sets array → Lacks code words rows entries → StepCoded code sets array asked (code_for (lacking rows entries))
 step_lacks code sets array words asked request rows entries image is opened lacks = record {
   time = lacks.time;
   timed = λ image zero. subst (λ (w : List ℕ). Timed lacks.time w) opened lacks.timed;

@@ -6,8 +6,8 @@ use Rattle.std.proofs.Math.Seq.{drop-nil}
 use Rattle.std.specs.Option.{option_to_list}
 use Rattle.agc_plan.specs.declared.request.Request.{Request}
 use Rattle.agc_plan.specs.Pulses.{action_request, requests_for}
-use Rattle.agc_image.specs.declared.asked.AgcRequest.{AgcRequest}
-use Rattle.agc_image.specs.Written.{action_told}
+use Rattle.agc_image.specs.declared.requests.AgcRequest.{AgcRequest}
+use Rattle.agc_image.specs.Written.{action_from_c}
 use Rattle.agc_machine.specs.declared.answer.Refusal.TheVariants.{Spent, LogFull}
 use Rattle.agc_machine.specs.Machines.{IsLawful, Machined, refusal_of, starts_over}
 use Rattle.libagc.specs.declared.asking.AgcBounds.{AgcBounds}
@@ -16,14 +16,14 @@ use Rattle.libagc.specs.Spelled.{numbers_of}
 
 -- the numbers of what actions ask for
 abbrev pub asks : List AgcRequest → List AgcRequest
-asks actions = map numbers_of (requests_for (map action_told actions))
+asks actions = map numbers_of (requests_for (map action_from_c actions))
 
-pub asks_cons : (a : AgcRequest) (others : List AgcRequest) → asks (a ∷ others) ≡ map numbers_of (option_to_list (action_request (action_told a))) ++ asks others
-asks_cons a others = map-append numbers_of (option_to_list (action_request (action_told a))) (requests_for (map action_told others))
+pub asks_cons : (a : AgcRequest) (others : List AgcRequest) → asks (a ∷ others) ≡ map numbers_of (option_to_list (action_request (action_from_c a))) ++ asks others
+asks_cons a others = map-append numbers_of (option_to_list (action_request (action_from_c a))) (requests_for (map action_from_c others))
 
 -- one more is put behind those that are put
-pub put_on : (before : List AgcRequest) (a : AgcRequest) (others all : List AgcRequest) → before ++ asks (a ∷ others) ≡ all → (before ++ map numbers_of (option_to_list (action_request (action_told a)))) ++ asks others ≡ all
-put_on before a others all e = append_assoc before (map numbers_of (option_to_list (action_request (action_told a)))) (asks others) ∙ ap (λ (these : List AgcRequest). before ++ these) (sym (asks_cons a others)) ∙ e
+pub put_on : (before : List AgcRequest) (a : AgcRequest) (others all : List AgcRequest) → before ++ asks (a ∷ others) ≡ all → (before ++ map numbers_of (option_to_list (action_request (action_from_c a)))) ++ asks others ≡ all
+put_on before a others all e = append_assoc before (map numbers_of (option_to_list (action_request (action_from_c a)))) (asks others) ∙ ap (λ (these : List AgcRequest). before ++ these) (sym (asks_cons a others)) ∙ e
 
 -- lists that are the same behind a place are so behind a later one
 pub drop_on : {A : Type 0} (c r : ℕ) (xs ys : List A) → c ≤ r → drop c xs ≡ drop c ys → drop r xs ≡ drop r ys

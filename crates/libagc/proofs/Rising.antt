@@ -8,9 +8,9 @@ use Rattle.agc_plan.specs.Plans.{planned_with}
 use Rattle.agc_plan.specs.Seats.{era_places}
 use Rattle.agc_plan.specs.Steps.{begun}
 use Rattle.agc_phase.specs.Image.{ArePairs, Becomes, base_of}
-use Rattle.agc_image.specs.declared.lent.AgcPhaseEntry.{AgcPhaseEntry}
+use Rattle.agc_image.specs.declared.borrowed_plan.AgcPhaseEntry.{AgcPhaseEntry}
 use Rattle.agc_image.specs.Images.{IsSets, IsOpened, IsWritten, Changed, size_with, image_of, behind}
-use Rattle.agc_image.specs.Written.{written_told}
+use Rattle.agc_image.specs.Written.{plan_from_c}
 use Rattle.agc_image.proofs.Frames.{changed, sets_of_size}
 use Rattle.agc_phase.specs.Image.{power_base}
 use Rattle.agc_machine.specs.Stands.{BeginsEra, Stands}
@@ -26,7 +26,7 @@ begun_with entries base mid new is begins =
       ready = begins.ready;
       base_is = begins.same_base ∙ is;
       stands = subst (λ (b : Base). Stands new (begun (plan_for [] entries new) b.phases) (era_places (plan_for [] entries new) b)) is
-          (subst (λ (n : ℕ). Stands new (begun (planned_with (written_told [] entries) n) (base_of mid).phases) (era_places (planned_with (written_told [] entries) n) (base_of mid))) count begins.stands);
+          (subst (λ (n : ℕ). Stands new (begun (planned_with (plan_from_c [] entries) n) (base_of mid).phases) (era_places (planned_with (plan_from_c [] entries) n) (base_of mid))) count begins.stands);
     }
 
 pub era_begun : (entries : List AgcPhaseEntry) (alarm sets : ℕ) (old new words mid then : List ℕ) → IsSets sets → IsOpened sets old words → Becomes (base_after alarm (base_of words)) words mid → BeginsEra (plan_for [] entries mid) mid then → IsWritten then old new → Changed (Begins entries alarm) sets old new
@@ -37,13 +37,13 @@ era_begun entries alarm sets old new words mid then valid opened noted begins wr
     same (lawful_of then begins.ready.sound) written
 
 pub powered : (sets : ℕ) (count : Sets) (entries : List AgcPhaseEntry) (recovered : Bool) (phase_words old new words mid then : List ℕ) (number : ℕ) → IsSets sets → count_of count ≡ sets → length words ≡ size_of count → IsTrue recovered ↔ ArePairs phase_words → number ≡ power_number recovered → Becomes (power_base recovered phase_words) words mid → BeginsEra (plan_for [] entries mid) mid then → IsWritten then old new → PowersUp sets entries phase_words old new number
-powered sets count entries recovered phase_words old new words mid then number valid same long agreed told restored begins written =
+powered sets count entries recovered phase_words old new words mid then number valid same long agreed reply_to_c restored begins written =
     let last_count : sets_in then ≡ sets = sets_of_size sets then valid (begins.same_length ∙ restored.others.same_length ∙ long ∙ ap size_with same) in
     let is : image_of sets new ≡ then = subst (λ (n : ℕ). image_of n new ≡ then) last_count written.image in
     record {
       recovered = recovered;
       agreed = agreed;
-      number_is = told;
+      number_is = reply_to_c;
       image = record { count = valid; words = rw is written.range; lawful = rw is (lawful_of then begins.ready.sound) };
       begins = rw is (begun_with entries (power_base recovered phase_words) mid then restored.base_is begins);
       rest = subst (λ (n : ℕ). behind n new ≡ behind n old) last_count written.rest;

@@ -11,7 +11,7 @@ use Rattle.agc_image.specs.Codes.{code_of, code_for, Coded}
 use Rattle.agc_image.specs.Images.{IsImage, IsOpened, IsWritten, Changed}
 use Rattle.agc_image.proofs.Codes.{coded_served, coded_also}
 use Rattle.agc_image.proofs.Frames.{changed, lawful_by_cores, lawful_by_waits, lawful_by_phases}
-use Rattle.libagc.specs.Replies.{told, Serves}
+use Rattle.libagc.specs.Replies.{reply_to_c, Serves}
 use Rattle.libagc.specs.declared.reply.AgcReply.{AgcReply}
 
 -- an image's call was served
@@ -38,15 +38,15 @@ one_or_more fault.CostTwice = omega arith
 
 -- there is no image
 pub no_image : (found : Option Fault) (this : Fault) (code sets : ℕ) (array : List ℕ) (R W T : Type 0) → found ≡ Some this → code ≡ code_of this → Coded (code_for found) sets array (Unit {0}) (Unit {0}) (Unit {0}) → Coded code sets array R W T
-no_image found this code sets array R W T is told coded =
+no_image found this code sets array R W T is reply_to_c coded =
     let which : code_for found ≡ code_of this = ap code_for is in
-    rw told (coded_also (code_of this) sets array R W T (one_or_more this) (subst (λ (n : ℕ). Coded n sets array (Unit {0}) (Unit {0}) (Unit {0})) which coded))
+    rw reply_to_c (coded_also (code_of this) sets array R W T (one_or_more this) (subst (λ (n : ℕ). Coded n sets array (Unit {0}) (Unit {0}) (Unit {0})) which coded))
 
 -- a call on core sets was served
-pub serves_cores : (does : List ℕ → List ℕ → Reply → Type 0) (sets : ℕ) (old new words then : List ℕ) (reply : Reply) (result : AgcReply) → IsImage sets old → IsOpened sets old words → does words then reply → Keeps OutsideCores words then → cores.IsLawfulWords then → IsWritten then old new → result ≡ told reply → Serves does sets old new result
-serves_cores does sets old new words then reply result image opened did kept own written said = record {
+pub serves_cores : (does : List ℕ → List ℕ → Reply → Type 0) (sets : ℕ) (old new words then : List ℕ) (reply : Reply) (result : AgcReply) → IsImage sets old → IsOpened sets old words → does words then reply → Keeps OutsideCores words then → cores.IsLawfulWords then → IsWritten then old new → result ≡ reply_to_c reply → Serves does sets old new result
+serves_cores does sets old new words then reply result image opened did kept own written reply_with = record {
   reply = reply;
-  told = said;
+  reply_to_c = reply_with;
   changed = changed (λ these those. does these those reply) sets old new words then image.count opened did kept.same_length (lawful_by_cores words then kept opened.lawful own) written;
 }
 
@@ -59,9 +59,9 @@ pub changed_phases : (does : List ℕ → List ℕ → Type 0) (sets : ℕ) (old
 changed_phases does sets old new words then image opened did kept own written =
     changed does sets old new words then image.count opened did kept.same_length (lawful_by_phases words then kept opened.lawful own) written
 
-pub serves_waits : (does : List ℕ → List ℕ → Reply → Type 0) (sets : ℕ) (old new words then : List ℕ) (reply : Reply) (result : AgcReply) → IsImage sets old → IsOpened sets old words → does words then reply → Keeps OutsideWaitlist words then → table.IsLawfulTable then → IsWritten then old new → result ≡ told reply → Serves does sets old new result
-serves_waits does sets old new words then reply result image opened did kept own written said = record {
+pub serves_waits : (does : List ℕ → List ℕ → Reply → Type 0) (sets : ℕ) (old new words then : List ℕ) (reply : Reply) (result : AgcReply) → IsImage sets old → IsOpened sets old words → does words then reply → Keeps OutsideWaitlist words then → table.IsLawfulTable then → IsWritten then old new → result ≡ reply_to_c reply → Serves does sets old new result
+serves_waits does sets old new words then reply result image opened did kept own written reply_with = record {
   reply = reply;
-  told = said;
+  reply_to_c = reply_with;
   changed = changed_waits (λ these those. does these those reply) sets old new words then image opened did kept own written;
 }

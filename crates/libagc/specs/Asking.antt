@@ -1,4 +1,4 @@
--- What a pulse asks for, and which requests are refused, in a caller's numbers.
+-- The requests of a pulse, and which requests are refused, in a caller's numbers.
 use Rattle.std.specs.Prelude.{◌≡◌, ℕ, ◌==◌, nat_lt, nat_le, ◌&&◌, not, Bool, true}
 use Rattle.std.specs.Prelude.{if◌then◌else◌, List, [], ◌∷◌, length, map, Option, Some, None}
 use Rattle.agc_plan.specs.declared.line.Line.{Line}
@@ -6,13 +6,13 @@ use Rattle.agc_plan.specs.declared.line.Line.TheVariants.{Timer, Key, Radar}
 use Rattle.agc_plan.specs.declared.request.Request.{Request}
 use Rattle.agc_plan.specs.Plans.{planned_with}
 use Rattle.agc_plan.specs.Pulses.{pulse_requests}
-use Rattle.agc_image.specs.declared.asked.AgcRequest.{AgcRequest}
+use Rattle.agc_image.specs.declared.requests.AgcRequest.{AgcRequest}
 use Rattle.agc_image.specs.declared.fault.Fault.{Fault}
 use Rattle.agc_image.specs.declared.fault.Fault.TheVariants.{OutOfRange, PlanRange}
-use Rattle.agc_image.specs.Asked.{request_told, asked_fault}
+use Rattle.agc_image.specs.Requests.{request_from_c, request_fault}
 use Rattle.agc_image.specs.Codes.{code_of}
 use Rattle.agc_image.specs.Lacking.{is_action}
-use Rattle.agc_image.specs.Written.{action_told}
+use Rattle.agc_image.specs.Written.{action_from_c}
 use Rattle.agc_machine.specs.declared.answer.Refusal.{Refusal}
 use Rattle.agc_machine.specs.declared.answer.Refusal.TheVariants.{Spent, LogFull}
 use Rattle.agc_machine.specs.Machines.{Machined, starts_over}
@@ -23,7 +23,7 @@ abbrev pub are_actions : List AgcRequest → Bool
 are_actions [] = true
 are_actions (a ∷ others) = is_action a && are_actions others
 
--- what a pulse has done: at most four actions
+-- the actions of a pulse: at most four
 abbrev pub are_few : List AgcRequest → Bool
 are_few actions = nat_le (length actions) 4 && are_actions actions
 
@@ -35,17 +35,22 @@ pulse_lacks line key radar =
     else if not (are_few radar) then Some PlanRange
     else None
 
-abbrev pub line_told : ℕ → Line
-line_told line = if line == 0 then Timer else if line == 1 then Key else Radar
+abbrev pub line_from_c : ℕ → Line
+line_from_c line = if line == 0 then Timer else if line == 1 then Key else Radar
 
 -- the numbers of what a pulse asks for, by a plan that has these actions done for a key and a radar
 -- pulse
-abbrev pub pulse_told : ℕ → List AgcRequest → List AgcRequest → List AgcRequest
-pulse_told line key radar = map numbers_of (pulse_requests
+abbrev pub pulse_to_c : ℕ → List AgcRequest → List AgcRequest → List AgcRequest
+pulse_to_c line key radar = map numbers_of (pulse_requests
     (planned_with
-    (record { rows = []; entries = []; key = map action_told key; radar = map action_told radar })
+    (record {
+      rows = [];
+      entries = [];
+      key = map action_from_c key;
+      radar = map action_from_c radar;
+    })
     7)
-    (line_told line))
+    (line_from_c line))
 
 abbrev pub refusal_code : Option Refusal → ℕ
 refusal_code None = 0
@@ -61,11 +66,11 @@ bounds_code bounds asked =
 
 -- the code of numbers that are no request, or else that of the counts
 abbrev pub refused_with : AgcRequest → AgcBounds → Option Request → ℕ
-refused_with numbers bounds None = code_of (asked_fault numbers)
+refused_with numbers bounds None = code_of (request_fault numbers)
 refused_with numbers bounds (Some asked) = bounds_code bounds asked
 
 abbrev pub refused_code : AgcRequest → AgcBounds → ℕ
-refused_code numbers bounds = refused_with numbers bounds (request_told numbers)
+refused_code numbers bounds = refused_with numbers bounds (request_from_c numbers)
 
 -- a machine has these counts
 pub record Counts (m : Machined) (bounds : AgcBounds) : Type 0 where

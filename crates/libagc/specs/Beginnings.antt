@@ -11,7 +11,7 @@ use Rattle.agc_wait.specs.Table.{waits_of}
 use Rattle.agc_wait.specs.Table as table
 use Rattle.agc_image.specs.Images.{IsImage, image_of, behind}
 
--- of so many core sets none holds a job, and no task waits
+-- of this many core sets none holds a job, and no task waits
 pub record IsIdle (sets : ℕ) (words : List ℕ) : Type 0 where
   pub jobs : jobs_in words ≡ no_jobs sets
   pub placed : entries_in words ≡ replicate sets 0
@@ -31,7 +31,7 @@ abbrev pub blank_block : List ℕ
 blank_block = freed_block (replicate 12 0)
 
 -- the array has an image of nobody, nothing and six phases 0, with each core set blank, and the
--- numbers behind it as before
+-- numbers after it as before
 pub record IsFresh (sets : ℕ) (old new : List ℕ) : Type 0 where
   pub image : IsImage sets new
   pub idle : IsIdle sets (image_of sets new)

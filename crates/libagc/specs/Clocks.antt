@@ -1,4 +1,4 @@
--- What a caller's clock asks for.
+-- The requests of a caller's clock.
 use Rattle.std.specs.Prelude.{◌≡◌, ℕ, ◌+◌, ◌==◌, nat_lt, ◌||◌, Bool, if◌then◌else◌}
 use Rattle.std.specs.Prelude.{Option, Some, None}
 use Rattle.agc_plan.specs.Jobs.{Jobs}
@@ -8,22 +8,22 @@ use Rattle.agc_clock.specs.declared.asked.Source.TheVariants as source
 use Rattle.agc_clock.specs.Clocks.{AsksNext, Clocked}
 use Rattle.agc_clock.specs.Counts.{kept}
 use Rattle.agc_clock.specs.Timetables.{Schedule}
-use Rattle.agc_image.specs.declared.asked.AgcRequest.{AgcRequest}
+use Rattle.agc_image.specs.declared.requests.AgcRequest.{AgcRequest}
 use Rattle.libagc.specs.declared.steps.AgcStep.{AgcStep}
 use Rattle.libagc.specs.Spelled.{numbers_of}
 
 -- 1 for the clock itself, and from 2 on the events; one that fits no number of C is told as the
 -- greatest
-abbrev pub source_told : Source → ℕ
-source_told source.Clock = 1
-source_told (source.Event number) = if nat_lt number 4294967293 then number + 2 else 4294967295
+abbrev pub source_to_c : Source → ℕ
+source_to_c source.Clock = 1
+source_to_c (source.Event number) = if nat_lt number 4294967293 then number + 2 else 4294967295
 
--- who asks; 0 where the time is over
-abbrev pub asker_told : Option Asked → ℕ
-asker_told None = 0
-asker_told (Some asked) = source_told asked.source
+-- who asks; 0 if the time is over
+abbrev pub asker_to_c : Option Asked → ℕ
+asker_to_c None = 0
+asker_to_c (Some asked) = source_to_c asked.source
 
--- the numbers of what is asked, in place of these
+-- the numbers of the clock's request; without one, the numbers of before
 abbrev pub numbers_after : Option Asked → AgcRequest → AgcRequest
 numbers_after None before = before
 numbers_after (Some asked) before = numbers_of asked.request
@@ -33,16 +33,16 @@ pub record ClockAsks (table : Schedule) (jobs : Jobs) (old new : Clocked)
     (before after : AgcRequest) (number : ℕ) : Type 0 where
   pub asked : Option Asked
   pub asks : AsksNext table jobs old asked new
-  pub number_is : number ≡ asker_told asked
+  pub number_is : number ≡ asker_to_c asked
   pub request_is : after ≡ numbers_after asked before
 
 -- whether an era began with a step: after an alarm, a restart or a fresh start
-abbrev pub began_told : AgcStep → Bool
-began_told step = (step.reply == 10) || ((step.reply == 13) || (step.reply == 14))
+abbrev pub begins_era : AgcStep → Bool
+begins_era step = (step.reply == 10) || ((step.reply == 13) || (step.reply == 14))
 
--- the code of the alarm of a step, 0 where it has none
-abbrev pub alarm_told : AgcStep → ℕ
-alarm_told step = if (step.reply == 10) || (step.reply == 13) then step.number else 0
+-- the code of the alarm of a step, 0 if it has none
+abbrev pub alarm_to_c : AgcStep → ℕ
+alarm_to_c step = if (step.reply == 10) || (step.reply == 13) then step.number else 0
 
 -- a clock after a step that left a machine with these jobs
 abbrev pub clock_after : AgcStep → Jobs → Clocked → Clocked
@@ -52,5 +52,5 @@ clock_after step jobs clock = record {
   asked = clock.asked;
   looks = clock.looks;
   left = clock.left;
-  counts = kept (began_told step) jobs clock.counts;
+  counts = kept (begins_era step) jobs clock.counts;
 }

@@ -6,7 +6,7 @@ use Rattle.agc_plan.specs.Base.{Base, with_code}
 use Rattle.agc_plan.specs.Seats.{era_places}
 use Rattle.agc_plan.specs.Steps.{begun}
 use Rattle.agc_phase.specs.Image.{ArePairs, base_of, code_of_word}
-use Rattle.agc_image.specs.declared.lent.AgcPhaseEntry.{AgcPhaseEntry}
+use Rattle.agc_image.specs.declared.borrowed_plan.AgcPhaseEntry.{AgcPhaseEntry}
 use Rattle.agc_image.specs.Images.{AreWords, IsImage, IsSets, image_of, behind}
 use Rattle.agc_phase.specs.Image.{power_base}
 use Rattle.agc_machine.specs.Stands.{IsReady, Stands}
@@ -29,7 +29,7 @@ pub record Begins (entries : List AgcPhaseEntry) (alarm : ℕ) (old new : List �
   pub same_length : length new ≡ length old
   pub begins : BeginsWith entries (base_after alarm (base_of old)) new
 
--- the code of a number that is to be an alarm, or 0 where there is none
+-- the code of a number that is to be an alarm, or 0 if there is none
 abbrev pub alarm_lack : ℕ → ℕ
 alarm_lack alarm = if alarm == 0 then 0 else (if is_some (code_of_word alarm) then 0 else 4)
 
@@ -42,7 +42,7 @@ abbrev pub power_number : Bool → ℕ
 power_number recovered = if recovered then 0 else 0o1107
 
 -- power came back with these phase words: an era began in an image by them alone, and the numbers
--- behind it are as before
+-- after it are as before
 pub record PowersUp (sets : ℕ) (entries : List AgcPhaseEntry) (phase_words old new : List ℕ)
     (number : ℕ) : Type 0 where
   pub recovered : Bool
@@ -52,7 +52,7 @@ pub record PowersUp (sets : ℕ) (entries : List AgcPhaseEntry) (phase_words old
   pub begins : BeginsWith entries (power_base recovered phase_words) (image_of sets new)
   pub rest : behind sets new ≡ behind sets old
 
--- its code: core sets, words, and then the plan's
+-- the code of a power-up: core sets, words, and then the plan's
 pub record PowerCoded (code sets : ℕ) (phase_words : List ℕ) (plan : ℕ) : Type 0 where
   pub no_such_sets : ¬ IsSets sets → code ≡ 1
   pub not_words : IsSets sets → ¬ AreWords phase_words → code ≡ 2

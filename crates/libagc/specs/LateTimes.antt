@@ -1,18 +1,18 @@
--- What a caller's timetable lacks.
+-- The faults of a caller's timetable.
 use Rattle.std.specs.Prelude.{ℕ, ◌+◌, ◌-◌, ◌==◌, nat_lt, nat_le, ◌&&◌, ◌||◌, not, Bool, true}
 use Rattle.std.specs.Prelude.{false, if◌then◌else◌, List, [], ◌∷◌, length, Option, Some, None}
 use Rattle.std.specs.Option.{is_some, option_and_then}
 use Rattle.agc_clock.specs.declared.times.TheConstants.{LAST_TIME}
 use Rattle.agc_clock.specs.declared.timetable.Stolen.{Stolen}
 use Rattle.agc_clock.specs.Timetables.{comes_once, overlap, step_of}
-use Rattle.agc_image.specs.declared.asked.AgcRequest.{AgcRequest}
+use Rattle.agc_image.specs.declared.requests.AgcRequest.{AgcRequest}
 use Rattle.agc_image.specs.declared.fault.Fault.{Fault}
 use Rattle.agc_image.specs.declared.fault.Fault.TheVariants.{TimeRange, StealTwice, CostTwice}
-use Rattle.agc_image.specs.Asked.{request_told}
-use Rattle.agc_image.specs.Told.{address_told}
+use Rattle.agc_image.specs.Requests.{request_from_c}
+use Rattle.agc_image.specs.FromC.{address_from_c}
 use Rattle.libagc.specs.declared.timetable.AgcCost.{AgcCost}
 use Rattle.libagc.specs.declared.timetable.AgcEvent.{AgcEvent}
-use Rattle.libagc.specs.LentTimes.{asked_by}
+use Rattle.libagc.specs.BorrowedTimes.{requests_from}
 
 -- the greatest cost, in hundredths of a centisecond
 abbrev pub most_cost : ℕ
@@ -26,7 +26,7 @@ is_steal row =
 
 -- a request that is a step of a job
 abbrev pub is_step : AgcRequest → Bool
-is_step r = is_some (option_and_then step_of (request_told r))
+is_step r = is_some (option_and_then step_of (request_from_c r))
 
 abbrev pub are_steps : List AgcRequest → Bool
 are_steps [] = true
@@ -36,11 +36,11 @@ are_steps (r ∷ rs) = is_step r && are_steps rs
 -- address, and before it asks for at most seven of the requests
 abbrev pub is_cost : List AgcRequest → AgcCost → Bool
 is_cost requests row =
-    is_some (address_told row.at)
+    is_some (address_from_c row.at)
     && (nat_lt row.spread row.hundredths && (nat_le row.hundredths most_cost
-    && (((row.then == 0) || is_some (address_told row.then))
+    && (((row.then == 0) || is_some (address_from_c row.then))
     && (nat_le row.count 7 && (nat_le (row.first + row.count) (length requests)
-    && are_steps (asked_by requests row.first row.count))))))
+    && are_steps (requests_from requests row.first row.count))))))
 
 -- once, or again up to a time: never, where that is before the first; since the start, or since an
 -- alarm
@@ -49,7 +49,7 @@ is_coming row =
     nat_le row.at LAST_TIME && (((row.every == 0) || nat_le row.until LAST_TIME)
     && ((row.after == 0) || (nat_le 0o1201 row.after && nat_le row.after 0o1203)))
 
--- an event asks for one to sixteen of so many requests
+-- an event asks for one to sixteen of this many requests
 abbrev pub is_event : ℕ → AgcEvent → Bool
 is_event requests row =
     is_coming row && (nat_lt 0 row.count && (nat_le row.count 16
@@ -69,9 +69,9 @@ are_events requests (row ∷ rows) = is_event requests row && are_events request
 
 abbrev pub are_requests : List AgcRequest → Bool
 are_requests [] = true
-are_requests (r ∷ rs) = is_some (request_told r) && are_requests rs
+are_requests (r ∷ rs) = is_some (request_from_c r) && are_requests rs
 
--- whether a row of stolen time overlaps one of these
+-- whether a row of stolen time overlaps another
 abbrev pub meets : Stolen → List Stolen → Bool
 meets row [] = false
 meets row (other ∷ others) = overlap row other || meets row others

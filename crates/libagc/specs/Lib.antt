@@ -6,10 +6,10 @@ pub mod Beginnings
 pub mod Stepping
 pub mod Eras
 pub mod Spelled
-pub mod LentTimes
+pub mod BorrowedTimes
 pub mod LateTimes
 pub mod Clocks
 pub mod Tables
+pub mod Scenes
 pub mod Explaining
-pub mod Reading
 pub mod Asking

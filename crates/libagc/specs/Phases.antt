@@ -1,4 +1,4 @@
--- What is asked of phases and FAILREG.
+-- The calls on phases and FAILREG.
 use Rattle.std.specs.Prelude.{◌≡◌, ℕ, List, Some}
 use Rattle.agc_plan.specs.declared.reply.Code.{Code}
 use Rattle.agc_plan.specs.Base.{with_code}

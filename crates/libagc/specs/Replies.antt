@@ -14,33 +14,33 @@ alarm_code A1202 = 0o1202
 alarm_code A1203 = 0o1203
 
 -- a reply of this kind, with this number
-abbrev pub said : ℕ → ℕ → AgcReply
-said kind number = record { code = 0; reply = kind; number = number }
+abbrev pub reply_with : ℕ → ℕ → AgcReply
+reply_with kind number = record { code = 0; reply = kind; number = number }
 
 -- a reply's kind, and the job or the alarm that it names
-abbrev pub told : Reply → AgcReply
-told (reply.Established number) = said 1 number
-told (reply.Left (Some number)) = said 2 number
-told (reply.Left None) = said 3 0
-told (reply.Roused number) = said 4 number
-told reply.NoSleeper = said 5 0
-told reply.NoJob = said 6 0
-told (reply.Runs number) = said 7 number
-told reply.Stored = said 8 0
-told reply.Listed = said 9 0
-told (reply.Alarmed alarm) = said 10 (alarm_code alarm)
-told reply.Phased = said 0 0
-told (reply.Ticked alarm) = said 0 0
-told reply.Restarted = said 0 0
+abbrev pub reply_to_c : Reply → AgcReply
+reply_to_c (reply.Established number) = reply_with 1 number
+reply_to_c (reply.Left (Some number)) = reply_with 2 number
+reply_to_c (reply.Left None) = reply_with 3 0
+reply_to_c (reply.Roused number) = reply_with 4 number
+reply_to_c reply.NoSleeper = reply_with 5 0
+reply_to_c reply.NoJob = reply_with 6 0
+reply_to_c (reply.Runs number) = reply_with 7 number
+reply_to_c reply.Stored = reply_with 8 0
+reply_to_c reply.Listed = reply_with 9 0
+reply_to_c (reply.Alarmed alarm) = reply_with 10 (alarm_code alarm)
+reply_to_c reply.Phased = reply_with 0 0
+reply_to_c (reply.Ticked alarm) = reply_with 0 0
+reply_to_c reply.Restarted = reply_with 0 0
 
 -- a task was listed, or there was no room
 abbrev pub listing : Bool → Reply
 listing accepted = if accepted then reply.Listed else reply.Alarmed A1203
 
 -- the number of a job, 0 for none
-abbrev pub number_told : Option ℕ → ℕ
-number_told None = 0
-number_told (Some number) = number
+abbrev pub number_to_c : Option ℕ → ℕ
+number_to_c None = 0
+number_to_c (Some number) = number
 
 -- a call was not served
 abbrev pub refusal : ℕ → AgcReply
@@ -50,7 +50,7 @@ refusal code = record { code = code; reply = 0; number = 0 }
 pub record Serves (does : List ℕ → List ℕ → Reply → Type 0) (sets : ℕ) (old new : List ℕ)
     (result : AgcReply) : Type 0 where
   pub reply : Reply
-  pub told : result ≡ told reply
+  pub reply_to_c : result ≡ reply_to_c reply
   pub changed : Changed (λ these those. does these those reply) sets old new
 
 -- a call was not served: the array is as before, and nothing but the code is told

@@ -5,33 +5,33 @@ use Rattle.agc_plan.specs.declared.request.Request.TheVariants as request
 use Rattle.agc_plan.specs.declared.request.Action.{Action}
 use Rattle.agc_plan.specs.declared.request.Action.TheVariants as action
 use Rattle.agc_plan.specs.Ranges.{IsRequest, IsAction}
-use Rattle.agc_image.specs.declared.asked.AgcRequest.{AgcRequest}
+use Rattle.agc_image.specs.declared.requests.AgcRequest.{AgcRequest}
 use Rattle.agc_text.specs.Lines.{line_of, action_line_of}
 
 -- a kind and its numbers
-abbrev pub asked : ℕ → ℕ → ℕ → ℕ → AgcRequest
-asked kind first second third =
+abbrev pub request_with : ℕ → ℕ → ℕ → ℕ → AgcRequest
+request_with kind first second third =
     record { kind = kind; first = first; second = second; third = third }
 
 -- the numbers of a request, in the order of its line; 0 for those that its kind doesn't have
 abbrev pub numbers_of : Request → AgcRequest
-numbers_of (request.Novac priority entry) = asked 1 priority entry.at entry.bank
-numbers_of (request.Findvac priority entry) = asked 2 priority entry.at entry.bank
-numbers_of request.EndOfJob = asked 3 0 0 0
-numbers_of (request.Sleep at) = asked 4 at 0 0
-numbers_of (request.Rouse at) = asked 5 at 0 0
-numbers_of (request.Prio priority) = asked 6 priority 0 0
-numbers_of request.Change = asked 7 0 0 0
-numbers_of (request.Store place word) = asked 8 place word 0
-numbers_of (request.List delay task) = asked 9 delay task.at task.bank
-numbers_of request.Tick = asked 10 0 0 0
-numbers_of (request.SetPhase group phase) = asked 11 group phase 0
-numbers_of request.Restart = asked 12 0 0 0
-numbers_of request.Fresh = asked 13 0 0 0
+numbers_of (request.Novac priority entry) = request_with 1 priority entry.at entry.bank
+numbers_of (request.Findvac priority entry) = request_with 2 priority entry.at entry.bank
+numbers_of request.EndOfJob = request_with 3 0 0 0
+numbers_of (request.Sleep at) = request_with 4 at 0 0
+numbers_of (request.Rouse at) = request_with 5 at 0 0
+numbers_of (request.Prio priority) = request_with 6 priority 0 0
+numbers_of request.Change = request_with 7 0 0 0
+numbers_of (request.Store place word) = request_with 8 place word 0
+numbers_of (request.List delay task) = request_with 9 delay task.at task.bank
+numbers_of request.Tick = request_with 10 0 0 0
+numbers_of (request.SetPhase group phase) = request_with 11 group phase 0
+numbers_of request.Restart = request_with 12 0 0 0
+numbers_of request.Fresh = request_with 13 0 0 0
 
 -- the numbers of an action: of kind 0, or those of the request that asks for the same
 abbrev pub action_numbers : Action → AgcRequest
-action_numbers action.Nothing = asked 0 0 0 0
+action_numbers action.Nothing = request_with 0 0 0 0
 action_numbers (action.Novac priority entry) = numbers_of (request.Novac priority entry)
 action_numbers (action.Findvac priority entry) = numbers_of (request.Findvac priority entry)
 action_numbers (action.Rouse at) = numbers_of (request.Rouse at)

@@ -1,4 +1,4 @@
--- What a whole step does to a caller's words, and what it answers.
+-- The effect of a whole step on a caller's words, and its reply.
 use Rattle.std.specs.Prelude.{◌≡◌, ◌↔◌, ℕ, ◌==◌, nat_lt, true, false, if◌then◌else◌, List}
 use Rattle.std.specs.Prelude.{Some, None, length, slice_get}
 use Rattle.std.specs.Option.{is_some}
@@ -10,23 +10,23 @@ use Rattle.agc_plan.specs.Plans.{Planned, planned_with}
 use Rattle.agc_word.specs.Layout.{sets_in}
 use Rattle.agc_wait.specs.Table.{waits_of}
 use Rattle.agc_wait.specs.Waits.{is_due}
-use Rattle.agc_image.specs.declared.asked.AgcRequest.{AgcRequest}
-use Rattle.agc_image.specs.declared.lent.AgcPhaseEntry.{AgcPhaseEntry}
-use Rattle.agc_image.specs.declared.lent.AgcRow.{AgcRow}
-use Rattle.agc_image.specs.Asked.{request_told, asked_fault}
+use Rattle.agc_image.specs.declared.requests.AgcRequest.{AgcRequest}
+use Rattle.agc_image.specs.declared.borrowed_plan.AgcPhaseEntry.{AgcPhaseEntry}
+use Rattle.agc_image.specs.declared.borrowed_plan.AgcRow.{AgcRow}
+use Rattle.agc_image.specs.Requests.{request_from_c, request_fault}
 use Rattle.agc_image.specs.Codes.{Coded, code_of, code_for}
 use Rattle.agc_image.specs.Images.{Changed, IsImage, image_of}
 use Rattle.agc_image.specs.Lacking.{lacking}
-use Rattle.agc_image.specs.Written.{written_told}
+use Rattle.agc_image.specs.Written.{plan_from_c}
 use Rattle.agc_machine.specs.Stands.{Acts, StepsTo, FiresIn, RaisesIn, IsReady}
 use Rattle.libagc.specs.declared.steps.AgcFired.{AgcFired}
 use Rattle.libagc.specs.declared.steps.AgcStep.{AgcStep}
 use Rattle.libagc.specs.Replies.{alarm_code}
 
--- a reply of this kind, with this number, with so many tasks that fired, the last of which raised
+-- a reply of this kind, with this number, with this many tasks that fired, the last of which raised
 -- an alarm by the action of this number
-abbrev pub step_said : ℕ → ℕ → ℕ → ℕ → AgcStep
-step_said kind number fired action = record {
+abbrev pub step_with : ℕ → ℕ → ℕ → ℕ → AgcStep
+step_with kind number fired action = record {
   code = 0;
   reply = kind;
   number = number;
@@ -36,25 +36,25 @@ step_said kind number fired action = record {
 }
 
 -- a reply's kind, and the job or the alarm that it names
-abbrev pub step_told : Reply → ℕ → ℕ → AgcStep
-step_told (reply.Established number) fired action = step_said 1 number fired action
-step_told (reply.Left (Some number)) fired action = step_said 2 number fired action
-step_told (reply.Left None) fired action = step_said 3 0 fired action
-step_told (reply.Roused number) fired action = step_said 4 number fired action
-step_told reply.NoSleeper fired action = step_said 5 0 fired action
-step_told reply.NoJob fired action = step_said 6 0 fired action
-step_told (reply.Runs number) fired action = step_said 7 number fired action
-step_told reply.Stored fired action = step_said 8 0 fired action
-step_told reply.Listed fired action = step_said 9 0 fired action
-step_told (reply.Alarmed alarm) fired action = step_said 10 (alarm_code alarm) fired action
-step_told reply.Phased fired action = step_said 11 0 fired action
-step_told (reply.Ticked None) fired action = step_said 12 0 fired action
-step_told (reply.Ticked (Some alarm)) fired action = step_said 13 (alarm_code alarm) fired action
-step_told reply.Restarted fired action = step_said 14 0 fired action
+abbrev pub step_to_c : Reply → ℕ → ℕ → AgcStep
+step_to_c (reply.Established number) fired action = step_with 1 number fired action
+step_to_c (reply.Left (Some number)) fired action = step_with 2 number fired action
+step_to_c (reply.Left None) fired action = step_with 3 0 fired action
+step_to_c (reply.Roused number) fired action = step_with 4 number fired action
+step_to_c reply.NoSleeper fired action = step_with 5 0 fired action
+step_to_c reply.NoJob fired action = step_with 6 0 fired action
+step_to_c (reply.Runs number) fired action = step_with 7 number fired action
+step_to_c reply.Stored fired action = step_with 8 0 fired action
+step_to_c reply.Listed fired action = step_with 9 0 fired action
+step_to_c (reply.Alarmed alarm) fired action = step_with 10 (alarm_code alarm) fired action
+step_to_c reply.Phased fired action = step_with 11 0 fired action
+step_to_c (reply.Ticked None) fired action = step_with 12 0 fired action
+step_to_c (reply.Ticked (Some alarm)) fired action = step_with 13 (alarm_code alarm) fired action
+step_to_c reply.Restarted fired action = step_with 14 0 fired action
 
 -- the number of an action: a row has four, and one that fits no number of C would be told as 0
-abbrev pub action_told : ℕ → ℕ
-action_told number = if nat_lt number 4294967296 then number else 0
+abbrev pub action_to_c : ℕ → ℕ
+action_to_c number = if nat_lt number 4294967296 then number else 0
 
 -- a step was not served
 abbrev pub step_refusal : ℕ → AgcStep
@@ -62,16 +62,16 @@ step_refusal code = record { code = code; reply = 0; number = 0; fired = 0; acti
 
 -- the plan of these rows and entries, on a computer with as many core sets as these words have
 abbrev pub plan_for : List AgcRow → List AgcPhaseEntry → List ℕ → Planned
-plan_for rows entries words = planned_with (written_told rows entries) (sets_in words)
+plan_for rows entries words = planned_with (plan_from_c rows entries) (sets_in words)
 
--- what a task that fired is told as
-abbrev pub fired_told : Task → AgcFired
-fired_told task = record { at = task.at; bank = task.bank }
+-- the report on a task that fired
+abbrev pub fired_to_c : Task → AgcFired
+fired_to_c task = record { at = task.at; bank = task.bank }
 
 -- the first places have these tasks, in order, and the others are as before
-pub record AreTold (fired : List Task) (before after : List AgcFired) : Type 0 where
+pub record AreHandedOut (fired : List Task) (before after : List AgcFired) : Type 0 where
   pub first : (k : ℕ) (task : Task) → slice_get fired k ≡ Some task → slice_get after k ≡ Some
-      (fired_told task)
+      (fired_to_c task)
   pub others : (k : ℕ) → slice_get fired k ≡ None → slice_get after k ≡ slice_get before k
 
 -- the step of this request by the caller's plan: the array's words became others by it, these tasks
@@ -81,8 +81,8 @@ pub record Steps (rows : List AgcRow) (entries : List AgcPhaseEntry) (asked : Re
   pub reply : Reply
   pub fired : List Task
   pub action : ℕ
-  pub told : result ≡ step_told reply (length fired) (action_told action)
-  pub handed_out : AreTold fired before after
+  pub reply_to_c : result ≡ step_to_c reply (length fired) (action_to_c action)
+  pub handed_out : AreHandedOut fired before after
   pub fires : FiresIn (plan_for rows entries (image_of sets old)) asked (image_of sets old) fired
   pub raises : RaisesIn (plan_for rows entries (image_of sets old)) asked (image_of sets old) action
   pub acted : Changed (λ these those. Acts (plan_for rows entries these) asked these reply those)
@@ -96,7 +96,7 @@ pub record Serves (rows : List AgcRow) (entries : List AgcPhaseEntry) (asked : A
     (sets : ℕ)
     (old new moment : List ℕ) (before after : List AgcFired) (result : AgcStep) : Type 0 where
   pub request : Request
-  pub asked_is : request_told asked ≡ Some request
+  pub asked_is : request_from_c asked ≡ Some request
   pub steps : Steps rows entries request sets old new moment before after result
 
 -- nothing was done: the array and what fired are as before, and the moment has the array
@@ -105,15 +105,15 @@ pub record Refuses (old new moment : List ℕ) (before after : List AgcFired) (r
   pub words : new ≡ old
   pub fired : after ≡ before
   pub moment_is : moment ≡ old
-  pub told : result ≡ step_refusal result.code
+  pub reply_to_c : result ≡ step_refusal result.code
 
 -- the first of two codes that isn't 0
 abbrev pub first_of : ℕ → ℕ → ℕ
 first_of a b = if a == 0 then b else a
 
 -- the code of numbers that are to be a request
-abbrev pub asked_code : AgcRequest → ℕ
-asked_code asked = if is_some (request_told asked) then 0 else code_of (asked_fault asked)
+abbrev pub request_code : AgcRequest → ℕ
+request_code asked = if is_some (request_from_c asked) then 0 else code_of (request_fault asked)
 
 -- the code of lawful words that are to be between requests: a task is due, or else they are such as
 -- no step leaves
@@ -139,5 +139,5 @@ pub record ImageThen (code sets : ℕ) (array : List ℕ) (other : ℕ) : Type 0
 -- plan's
 pub record StepCoded (code sets : ℕ) (array : List ℕ) (asked : AgcRequest) (plan : ℕ) : Type 0 where
   pub time : ℕ
-  pub timed : IsImage sets array → asked_code asked ≡ 0 → Timed time (image_of sets array)
-  pub first : ImageThen code sets array (first_of (asked_code asked) (first_of time plan))
+  pub timed : IsImage sets array → request_code asked ≡ 0 → Timed time (image_of sets array)
+  pub first : ImageThen code sets array (first_of (request_code asked) (first_of time plan))

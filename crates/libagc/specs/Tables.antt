@@ -27,10 +27,10 @@ work_at place words =
     ∷ slice_index words (place + 4) ∷ slice_index words (place + 5)
     ∷ slice_index words (place + 6) ∷ []
 
--- what a core set holds: its job, with its bank's word and its work words, or no job
-abbrev pub job_told : ℕ → List ℕ → Option Seat → AgcJob
-job_told set words None = no_job 0
-job_told set words (Some seat) = record {
+-- the job in a core set, with its bank's word and its work words, or no job
+abbrev pub job_to_c : ℕ → List ℕ → Option Seat → AgcJob
+job_to_c set words None = no_job 0
+job_to_c set words (Some seat) = record {
   code = 0;
   number = seat.number;
   priority = seat.priority;
@@ -46,9 +46,9 @@ abbrev pub no_task : ℕ → AgcWaiting
 no_task code = record { code = code; at = 0; bank = 0; left = 0 }
 
 -- a task that waits, with the centiseconds that are left to it, or none
-abbrev pub task_told : Option Waiting → AgcWaiting
-task_told None = no_task 0
-task_told (Some waiting) = record {
+abbrev pub task_to_c : Option Waiting → AgcWaiting
+task_to_c None = no_task 0
+task_to_c (Some waiting) = record {
   code = 0;
   at = waiting.task.at;
   bank = waiting.task.bank;

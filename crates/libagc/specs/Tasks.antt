@@ -1,4 +1,4 @@
--- What is asked of the Waitlist.
+-- The calls on the Waitlist.
 use Rattle.std.specs.Prelude.{◌≡◌, ℕ, Bool, true, false, List}
 use Rattle.agc_plan.specs.declared.reply.Reply.{Reply}
 use Rattle.agc_plan.specs.declared.request.Task.{Task}
@@ -8,7 +8,7 @@ use Rattle.agc_wait.specs.Waits.{is_due}
 use Rattle.agc_image.specs.Images.{image_of}
 use Rattle.libagc.specs.Replies.{listing}
 
--- a task is listed where there is room, with this reply
+-- a task is listed if there is room, with this reply
 abbrev pub DoesList : ℕ → Task → List ℕ → List ℕ → Reply → Type 0
 DoesList delay task old new reply =
     (accepted : Bool) × (Lists delay task old accepted new × (reply ≡ listing accepted))

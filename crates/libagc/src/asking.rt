@@ -1,35 +1,35 @@
-// Which requests are asked: what a pulse of a device asks for, and which requests are refused.
+// The requests of a device's pulse, and which requests are refused.
 ghost use Rattle.std.specs.Prelude.{◌≡◌, ◌≤◌, ◌<◌, ◌+◌, ◌++◌, true, Some, map, drop, take};
 ghost use Rattle.std.specs.Option.{option_to_list};
 ghost use Rattle.agc_plan.specs.declared.request.Request.{Request};
 ghost use Rattle.agc_plan.specs.Pulses.{action_request, requests_for};
-ghost use Rattle.agc_image.specs.Asked.{request_told};
+ghost use Rattle.agc_image.specs.Requests.{request_from_c};
 ghost use Rattle.agc_image.specs.Codes.{code_for};
 ghost use Rattle.agc_image.specs.Lacking.{is_action};
-ghost use Rattle.agc_image.specs.Written.{action_told};
+ghost use Rattle.agc_image.specs.Written.{action_from_c};
 ghost use Rattle.agc_machine.specs.Machines.{IsLawful, Machined, refusal_of};
 ghost use Rattle.libagc.specs.Asking.{Counts, are_actions, are_few, bounds_code, pulse_lacks};
-ghost use Rattle.libagc.specs.Asking.{pulse_told, refusal_code, refused_code};
+ghost use Rattle.libagc.specs.Asking.{pulse_to_c, refusal_code, refused_code};
 ghost use Rattle.libagc.specs.Spelled.{numbers_of};
 
 use crate::lines::numbers_of;
 use crate::reply::AgcNumber;
-use agc_image::{AgcRequest, Fault, asked_fault, is_action, request_of};
+use agc_image::{AgcRequest, Fault, is_action, request_fault, request_of};
 use agc_machine::starts_over;
 use agc_plan::Request;
 
-/// How many requests were served, how many are stored since the last era began, and how many of
-/// each there may be. The caller keeps them. Source: profile.
+/// The counts of a machine and their bounds: how many requests were served, and how many are stored
+/// since the last era began. The caller keeps them.
 #[repr(C)]
 #[derive(Clone, Copy)]
 pub struct AgcBounds {
     /// All requests that were served.
     pub served: u64,
-    /// How many are served at most.
+    /// The most requests that are served.
     pub allowance: u64,
-    /// Those that were served since the last era began.
+    /// Requests served since the last era began.
     pub logged: u32,
-    /// How many of these there are at most.
+    /// The most requests that are stored in an era.
     pub limit: u32,
 }
 
@@ -46,24 +46,23 @@ fn bounds_code(bounds: &AgcBounds, request: &Request) -> u32
     }
 }
 
-/// Whether a request is served, with so many before it: 0, and then it is; 4 and 5 for the request;
-/// 19, as many were served as are served at most; 20, the log is full, which refuses neither a
-/// restart nor a fresh start. Source: profile.
+/// Whether a request is served, with these counts before it: 0 if it is; 4 and 5 for faults of the
+/// request; 19 if as many were served as ever are; 20 if the log is full, which refuses neither a
+/// restart nor a fresh start.
 #[unsafe(no_mangle)]
 #[tactic(auto, using(crate::proofs::Pulsing::counts_refuse))]
 pub extern "C" fn agc_refusal(request: &AgcRequest, bounds: &AgcBounds) -> u32
     ensures code { result ≡ refused_code request.now bounds.now }
     // A machine with these counts refuses the same.
     ensures machine { (m : Machined) (asked : Request) → IsLawful m → Counts m bounds.now
-        → request_told request.now ≡ Some asked → result ≡ refusal_code (refusal_of m asked) }
+        → request_from_c request.now ≡ Some asked → result ≡ refusal_code (refusal_of m asked) }
 {
     match request_of(request) {
-        None => asked_fault(request).code(),
+        None => request_fault(request).code(),
         Some(asked) => bounds_code(bounds, &asked),
     }
 }
 
-/// Whether all of these are.
 fn are_actions(actions: &[AgcRequest]) -> bool
     ensures { result ≡ are_actions actions.now }
 {
@@ -82,7 +81,7 @@ fn are_few(actions: &[AgcRequest]) -> bool
     actions.len() <= 4 && are_actions(actions)
 }
 
-/// What a pulse lacks: its line, or actions.
+/// The fault of a pulse: of its line, or of its actions.
 fn pulse_lacks(line: u32, key: &[AgcRequest], radar: &[AgcRequest]) -> Option<Fault>
     ensures { result ≡ pulse_lacks line key.now radar.now }
 {
@@ -97,10 +96,10 @@ fn pulse_lacks(line: u32, key: &[AgcRequest], radar: &[AgcRequest]) -> Option<Fa
     }
 }
 
-/// The request by which an action is asked for; none for nothing.
-fn asked_for(action: &AgcRequest) -> Option<Request>
+/// The request of an action; none for the action `nothing`.
+fn request_of_action(action: &AgcRequest) -> Option<Request>
     requires { is_action action.now ≡ true }
-    ensures { result ≡ action_request (action_told action.now) }
+    ensures { result ≡ action_request (action_from_c action.now) }
 {
     if action.kind == 0 {
         None
@@ -109,18 +108,17 @@ fn asked_for(action: &AgcRequest) -> Option<Request>
     }
 }
 
-/// Writes what an action asks for behind the first so many requests. Returns how many there are
-/// then.
+/// Writes the request of an action after the first `count` requests. Returns their number then.
 fn put_request(requests: &mut [AgcRequest; 4], count: usize, action: &AgcRequest) -> usize
     requires room { count < 4 }
     requires action { is_action action.now ≡ true }
     ensures list { take result requests.new ≡ take count requests.old
-        ++ map numbers_of (option_to_list (action_request (action_told action.now))) }
+        ++ map numbers_of (option_to_list (action_request (action_from_c action.now))) }
     ensures rest { drop result requests.new ≡ drop result requests.old }
     ensures least { count ≤ result }
     ensures most { result ≤ count + 1 }
 {
-    match asked_for(action) {
+    match request_of_action(action) {
         None => count,
         Some(request) => {
             requests[count] = numbers_of(&request);
@@ -129,11 +127,11 @@ fn put_request(requests: &mut [AgcRequest; 4], count: usize, action: &AgcRequest
     }
 }
 
-/// Writes what these actions ask for, in order, into the first places. Returns how many these are.
+/// Writes the requests of these actions, in order, into the first places. Returns their number.
 fn put_requests(requests: &mut [AgcRequest; 4], actions: &[AgcRequest]) -> usize
     requires { are_few actions.now ≡ true }
     ensures list { take result requests.new
-        ≡ map numbers_of (requests_for (map action_told actions.now)) }
+        ≡ map numbers_of (requests_for (map action_from_c actions.now)) }
     ensures rest { drop result requests.new ≡ drop result requests.old }
     ensures most { result ≤ 4 }
 {
@@ -144,7 +142,7 @@ fn put_requests(requests: &mut [AgcRequest; 4], actions: &[AgcRequest]) -> usize
     count
 }
 
-/// Writes what a pulse of this line asks for. Returns how many requests these are.
+/// Writes the requests of a pulse of this line. Returns their number.
 fn put_pulse(
     requests: &mut [AgcRequest; 4],
     line: u32,
@@ -153,7 +151,7 @@ fn put_pulse(
 ) -> usize
     requires key { are_few key.now ≡ true }
     requires radar { are_few radar.now ≡ true }
-    ensures list { take result requests.new ≡ pulse_told line key.now radar.now }
+    ensures list { take result requests.new ≡ pulse_to_c line key.now radar.now }
     ensures rest { drop result requests.new ≡ drop result requests.old }
     ensures most { result ≤ 4 }
 {
@@ -167,11 +165,10 @@ fn put_pulse(
     }
 }
 
-/// What a pulse of a device asks for, in order: of line 0, the timer's, a tick; of line 1, the
-/// keys', and of line 2, the radar's, what the plan has done for it, at most four actions, of which
-/// those of kind 0 ask for nothing. The requests are in the first places, and the number says how
-/// many these are, 0 to 4. Code 4 where there is no such line, and 9 where there are more than four
-/// actions, or one of them is none. Source: profile.
+/// The requests of a pulse, in order: for line 0, the timer's, a tick; for line 1, the keys', and
+/// line 2, the radar's, the plan's actions, at most four, of which those of kind 0 make no request.
+/// The requests are in the first places, and the number says how many there are, 0 to 4. Code 4 if
+/// there is no such line, and 9 if there are more than four actions, or one of them is no action.
 #[unsafe(no_mangle)]
 pub extern "C" fn agc_pulse(
     line: u32,
@@ -181,14 +178,14 @@ pub extern "C" fn agc_pulse(
 ) -> AgcNumber
     ensures code { result.code ≡ code_for (pulse_lacks line key.now radar.now) }
     ensures served { result.code ≡ 0
-        → take result.number requests.new ≡ pulse_told line key.now radar.now }
+        → take result.number requests.new ≡ pulse_to_c line key.now radar.now }
     ensures rest { drop result.number requests.new ≡ drop result.number requests.old }
     ensures most { result.number ≤ 4 }
-    ensures refused { ¬ (result.code ≡ 0)
+    ensures with_fault { ¬ (result.code ≡ 0)
         → (requests.new ≡ requests.old) × (result.number ≡ 0) }
 {
     match pulse_lacks(line, key, radar) {
-        Some(fault) => AgcNumber::refused(fault),
+        Some(fault) => AgcNumber::with_fault(fault),
         None => AgcNumber {
             code: 0,
             number: put_pulse(requests, line, key, radar) as u32,

@@ -14,7 +14,7 @@ pub extern "C" fn agc_clear(words: &mut [u16; 144], sets: u32) -> u32
     ensures code { (result ≡ 0) ↔ IsSets sets }
     ensures no_such_sets { (result ≡ 1) ↔ ¬ IsSets sets }
     ensures served { result ≡ 0 → IsFresh sets words.old words.new }
-    ensures refused { ¬ (result ≡ 0) → words.new ≡ words.old }
+    ensures with_fault { ¬ (result ≡ 0) → words.new ≡ words.old }
 {
     match agc_image::sets(sets) {
         None => Fault::NoSuchSets.code(),

@@ -4,24 +4,24 @@ ghost use Rattle.agc_clock.specs.Clocks.{Clocked};
 ghost use Rattle.agc_exec.specs.Image.{jobs_in};
 ghost use Rattle.agc_image.specs.Codes.{Coded, code_for};
 ghost use Rattle.agc_image.specs.Images.{IsImage, IsLawful, image_of};
-ghost use Rattle.libagc.specs.Clocks.{ClockAsks, alarm_told, asker_told, source_told, began_told};
+ghost use Rattle.libagc.specs.Clocks.{ClockAsks, alarm_to_c, asker_to_c, source_to_c, begins_era};
 ghost use Rattle.libagc.specs.Clocks.{clock_after};
 ghost use Rattle.libagc.specs.LateTimes.{times_lack};
-ghost use Rattle.libagc.specs.LentTimes.{event_after, timetable_told};
+ghost use Rattle.libagc.specs.BorrowedTimes.{event_after, timetable_from_c};
 ghost use Rattle.libagc.specs.Stepping.{ImageThen};
 
 use crate::lines::numbers_of;
 use crate::reply::AgcNumber;
 use crate::steps::AgcStep;
 use crate::times::times_lack;
-use crate::timetable::{AgcCost, AgcEvent, LentTimes, event_after};
+use crate::timetable::{AgcCost, AgcEvent, BorrowedTimes, event_after};
 use agc_clock::{Clock, Source, Stolen};
-use agc_image::{AgcRequest, blank, image_fault, open};
+use agc_image::{AgcRequest, blank_image, image_fault, open};
 use agc_word::Erasable;
 
-/// Who asks.
+/// The number of a request's source.
 fn source_of(source: Source) -> u32
-    ensures { result ≡ source_told source }
+    ensures { result ≡ source_to_c source }
 {
     match source {
         Source::Clock => 1,
@@ -35,15 +35,15 @@ fn source_of(source: Source) -> u32
     }
 }
 
-/// What a clock asks of an open image.
+/// The next request of a clock, for an open image.
 fn ask_clock(
-    table: &LentTimes<'_>,
+    table: &BorrowedTimes<'_>,
     image: &Erasable,
     clock: &mut Clock,
     request: &mut AgcRequest,
 ) -> AgcNumber
     requires { IsLawful image.now }
-    ensures asks { ClockAsks (timetable_told table.now.lasts table.now.stolen.now
+    ensures asks { ClockAsks (timetable_from_c table.now.lasts table.now.stolen.now
         table.now.costs.now table.now.events.now table.now.requests.now) (jobs_in image.now)
         clock.old clock.new request.old request.new result.number }
     ensures code { result.code ≡ 0 }
@@ -63,7 +63,7 @@ fn ask_clock(
 /// The next request of a clock, which counts time since `clock` was all zeros, for a machine with
 /// these words. `request` gets its numbers. The number returned says who asks: 1 is the clock
 /// itself, 2 the first event, 3 the second and so on; 0 means that the time is over, and then the
-/// request is unchanged. Codes: 1 to 3 for the image, 15 to 17 for the timetable. Source: profile.
+/// request is unchanged. Codes: 1 to 3 for the image, 15 to 17 for the timetable.
 #[unsafe(no_mangle)]
 pub extern "C" fn agc_clock_next(
     words: &[u16; 144],
@@ -79,16 +79,16 @@ pub extern "C" fn agc_clock_next(
     ensures code { ImageThen result.code sets words.now
         (code_for (times_lack stolen.now costs.now events.now requests.now)) }
     ensures served { result.code ≡ 0 → ClockAsks
-        (timetable_told lasts stolen.now costs.now events.now requests.now)
+        (timetable_from_c lasts stolen.now costs.now events.now requests.now)
         (jobs_in (image_of sets words.now)) clock.old clock.new request.old request.new
         result.number }
-    ensures refused { ¬ (result.code ≡ 0) → (clock.new ≡ clock.old)
+    ensures with_fault { ¬ (result.code ≡ 0) → (clock.new ≡ clock.old)
         × ((request.new ≡ request.old) × (result.number ≡ 0)) }
 {
     match image_fault(words, sets) {
-        Some(fault) => AgcNumber::refused(fault),
+        Some(fault) => AgcNumber::with_fault(fault),
         None => match times_lack(stolen, costs, events, requests) {
-            Some(fault) => AgcNumber::refused(fault),
+            Some(fault) => AgcNumber::with_fault(fault),
             None => agc_clock_next_trusted(
                 words, sets, lasts, stolen, costs, events, requests, clock, request,
             ),
@@ -98,7 +98,7 @@ pub extern "C" fn agc_clock_next(
 
 /// As `agc_clock_next`, for an array that is known to have an image. It doesn't look at the
 /// timetable: an address out of its range counts as 16383, numbers that are no request as a change
-/// of job, and of two rows for one time, or one address, the first counts. Source: profile.
+/// of job, and of two rows for one time, or one address, the first counts.
 #[unsafe(no_mangle)]
 pub extern "C" fn agc_clock_next_trusted(
     words: &[u16; 144],
@@ -114,13 +114,13 @@ pub extern "C" fn agc_clock_next_trusted(
     requires { IsImage sets words.now }
     ensures code { result.code ≡ 0 }
     ensures served { ClockAsks
-        (timetable_told lasts stolen.now costs.now events.now requests.now)
+        (timetable_from_c lasts stolen.now costs.now events.now requests.now)
         (jobs_in (image_of sets words.now)) clock.old clock.new request.old request.new
         result.number }
 {
-    let mut image = blank(sets);
+    let mut image = blank_image(sets);
     open(words, sets, &mut image);
-    let table = LentTimes {
+    let table = BorrowedTimes {
         lasts,
         stolen,
         costs,
@@ -132,13 +132,13 @@ pub extern "C" fn agc_clock_next_trusted(
 
 /// Whether an era began with a step.
 fn began(step: &AgcStep) -> bool
-    ensures { result ≡ began_told step.now }
+    ensures { result ≡ begins_era step.now }
 {
     step.reply == 10 || step.reply == 13 || step.reply == 14
 }
 
-/// A clock takes what came of a request, also of one that it didn't ask for: the words that the
-/// step left, and the step. Codes: 1 to 3 for the image. Source: profile.
+/// Gives a clock the outcome of a request, even of one that it didn't make: the words that the step
+/// left, and the step. Codes: 1 to 3 for the image.
 #[unsafe(no_mangle)]
 pub extern "C" fn agc_clock_served(
     words: &[u16; 144],
@@ -149,7 +149,7 @@ pub extern "C" fn agc_clock_served(
     ensures code { Coded result sets words.now (Unit {0}) (Unit {0}) (Unit {0}) }
     ensures served { result ≡ 0
         → clock.new ≡ clock_after step.now (jobs_in (image_of sets words.now)) clock.old }
-    ensures refused { ¬ (result ≡ 0) → clock.new ≡ clock.old }
+    ensures with_fault { ¬ (result ≡ 0) → clock.new ≡ clock.old }
 {
     match image_fault(words, sets) {
         Some(fault) => fault.code(),
@@ -157,8 +157,7 @@ pub extern "C" fn agc_clock_served(
     }
 }
 
-/// As `agc_clock_served`, for an array that is known to have an image. Code 0 alone. Source:
-/// profile.
+/// As `agc_clock_served`, for an array that is known to have an image. Code 0 alone.
 #[unsafe(no_mangle)]
 pub extern "C" fn agc_clock_served_trusted(
     words: &[u16; 144],
@@ -171,15 +170,15 @@ pub extern "C" fn agc_clock_served_trusted(
     ensures served { clock.new ≡ clock_after step.now (jobs_in (image_of sets words.now))
         clock.old }
 {
-    let mut image = blank(sets);
+    let mut image = blank_image(sets);
     open(words, sets, &mut image);
     clock.served(&image, began(step));
     0
 }
 
-/// The code of the alarm of a step, 0 where it has none.
+/// The code of the alarm of a step, 0 if it has none.
 fn alarm_of(step: &AgcStep) -> u32
-    ensures { result ≡ alarm_told step.now }
+    ensures { result ≡ alarm_to_c step.now }
 {
     if step.reply == 10 || step.reply == 13 {
         step.number
@@ -191,11 +190,11 @@ fn alarm_of(step: &AgcStep) -> u32
 /// An event takes what came of a request, also of one that no clock asked for: if it counts from
 /// the alarm of this step, it does so from the clock's centisecond on, and then counts from the
 /// start. Any other stays. Returns the alarm for which it still waits, 0 for none. Call it for each
-/// event that waits, with each step of which `agc_clock_served` is told. Source: profile.
+/// event that waits, with each step of which `agc_clock_served` is told.
 #[unsafe(no_mangle)]
 pub extern "C" fn agc_clock_told(step: &AgcStep, clock: &Clock, event: &mut AgcEvent) -> u32
     ensures event { event.new
-        ≡ event_after (alarm_told step.now) clock.now.time event.old }
+        ≡ event_after (alarm_to_c step.now) clock.now.time event.old }
     ensures waits { result ≡ event.new.after }
 {
     *event = event_after(event, alarm_of(step), clock.time());

@@ -11,14 +11,14 @@ ghost use Rattle.libagc.specs.Eras.{power_number};
 
 use crate::reply::AgcNumber;
 use agc_image::{
-    AgcPhaseEntry, Fault, Lent, alarm_code, blank, image_fault, open, plan_lacks, twelve,
-    write_back,
+    AgcPhaseEntry, BorrowedPlan, Fault, alarm_code, blank_image, image_fault, open, plan_lacks,
+    twelve, write_back,
 };
 use agc_machine::begin;
 use agc_phase::{record_alarm, recover_into};
 use agc_word::{Erasable, Sets, Word};
 
-/// Whether a number is an alarm to be recorded, or 0 where none is.
+/// The fault of an alarm's number; None if it is 0 or an alarm to be recorded.
 fn alarm_fault(alarm: u32) -> Option<Fault>
     ensures { code_for result ≡ alarm_lack alarm }
 {
@@ -42,21 +42,21 @@ fn note(alarm: u32, e: &mut Erasable)
     }
 }
 
-/// An era begins in an image.
+/// Begins an era in an image.
 fn begin_era(words: &mut [u16; 144], sets: u32, alarm: u32, entries: &[AgcPhaseEntry])
     requires { IsImage sets words.old }
     ensures { Changed (Begins entries.now alarm) sets words.old words.new }
 {
-    let mut image = blank(sets);
+    let mut image = blank_image(sets);
     open(words, sets, &mut image);
     note(alarm, &mut image);
-    let plan = Lent { rows: &[], entries };
+    let plan = BorrowedPlan { rows: &[], entries };
     begin(&plan, &mut image);
     write_back(&image, words);
 }
 
 /// An era begins, as after an alarm: its code, 01107, 01201, 01202 or 01203, is recorded, or none
-/// where it is 0. All jobs and tasks are gone, and then for groups 1 to 6 in order the entry of the
+/// if it is 0. All jobs and tasks are gone, and then for groups 1 to 6 in order the entry of the
 /// group's phase begins, its job and then its task. Returns the code: 1 to 3 for the image, 4 for
 /// the alarm, 9, 11 or 12 for the entries. Source: the listings' FRESH START AND RESTART section.
 #[unsafe(no_mangle)]
@@ -68,7 +68,7 @@ pub extern "C" fn agc_begin(
 ) -> u32
     ensures code { BeginCoded result sets words.old alarm (code_for (lacking [] entries.now)) }
     ensures served { result ≡ 0 → Changed (Begins entries.now alarm) sets words.old words.new }
-    ensures refused { ¬ (result ≡ 0) → words.new ≡ words.old }
+    ensures with_fault { ¬ (result ≡ 0) → words.new ≡ words.old }
 {
     match image_fault(words, sets) {
         Some(fault) => fault.code(),
@@ -98,7 +98,7 @@ pub extern "C" fn agc_begin_trusted(
     requires { IsImage sets words.old }
     ensures code { result ≡ alarm_lack alarm }
     ensures served { result ≡ 0 → Changed (Begins entries.now alarm) sets words.old words.new }
-    ensures refused { ¬ (result ≡ 0) → words.new ≡ words.old }
+    ensures with_fault { ¬ (result ≡ 0) → words.new ≡ words.old }
 {
     match alarm_fault(alarm) {
         Some(fault) => fault.code(),
@@ -116,7 +116,7 @@ fn power_number(recovered: bool) -> u32
     if recovered { 0 } else { 0o1107 }
 }
 
-/// Power comes back with these phase words.
+/// Brings power back with these phase words.
 fn rise(
     words: &mut [u16; 144],
     count: Sets,
@@ -129,7 +129,7 @@ fn rise(
 {
     let mut image = Erasable::new(count);
     let recovered = recover_into(phase_words, &mut image);
-    let plan = Lent { rows: &[], entries };
+    let plan = BorrowedPlan { rows: &[], entries };
     begin(&plan, &mut image);
     write_back(&image, words);
     AgcNumber {
@@ -154,14 +154,14 @@ pub extern "C" fn agc_power_up(
         (code_for (lacking [] entries.now)) }
     ensures served { result.code ≡ 0
         → PowersUp sets entries.now phase_words.now words.old words.new result.number }
-    ensures refused { ¬ (result.code ≡ 0) → (words.new ≡ words.old) × (result.number ≡ 0) }
+    ensures with_fault { ¬ (result.code ≡ 0) → (words.new ≡ words.old) × (result.number ≡ 0) }
 {
     match agc_image::sets(sets) {
-        None => AgcNumber::refused(Fault::NoSuchSets),
+        None => AgcNumber::with_fault(Fault::NoSuchSets),
         Some(count) => match twelve(phase_words) {
-            None => AgcNumber::refused(Fault::NotWords),
+            None => AgcNumber::with_fault(Fault::NotWords),
             Some(found) => match plan_lacks(&[], entries) {
-                Some(fault) => AgcNumber::refused(fault),
+                Some(fault) => AgcNumber::with_fault(fault),
                 None => rise(words, count, entries, &found),
             },
         },
@@ -181,12 +181,12 @@ pub extern "C" fn agc_power_up_trusted(
     ensures code { PowerCoded result.code sets phase_words.now 0 }
     ensures served { result.code ≡ 0
         → PowersUp sets entries.now phase_words.now words.old words.new result.number }
-    ensures refused { ¬ (result.code ≡ 0) → (words.new ≡ words.old) × (result.number ≡ 0) }
+    ensures with_fault { ¬ (result.code ≡ 0) → (words.new ≡ words.old) × (result.number ≡ 0) }
 {
     match agc_image::sets(sets) {
-        None => AgcNumber::refused(Fault::NoSuchSets),
+        None => AgcNumber::with_fault(Fault::NoSuchSets),
         Some(count) => match twelve(phase_words) {
-            None => AgcNumber::refused(Fault::NotWords),
+            None => AgcNumber::with_fault(Fault::NotWords),
             Some(found) => rise(words, count, entries, &found),
         },
     }

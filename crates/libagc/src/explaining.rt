@@ -1,38 +1,46 @@
-// Which word of an array isn't lawful, and what would be.
+// The first word of an array that isn't lawful, and the word that would be.
 ghost use Rattle.std.specs.Prelude.{◌≡◌, ◌<◌, ◌≤◌, slice_index};
 ghost use Rattle.agc_image.specs.Codes.{Coded, code_of};
-ghost use Rattle.agc_image.specs.Explaining.{IsAt};
-ghost use Rattle.libagc.specs.Explaining.{lawful_told, without_sets};
+ghost use Rattle.agc_image.specs.Rules.{IsFound};
+ghost use Rattle.libagc.specs.Explaining.{IsBroken, lawful_to_c, without_sets};
 
-use agc_image::{ANY, Broken, Fault, first_broken, image_fault};
+use agc_image::{ANY, BrokenRule, Fault, first_broken, image_fault};
 
-/// Why words aren't lawful: the first word that breaks a rule. Source: profile.
+/// The reason why words aren't lawful: the first word that breaks a rule.
 #[repr(C)]
 #[derive(Clone, Copy)]
 pub struct AgcFinding {
     /// The code that the calls on an image answer: 0 to 3.
     pub code: u32,
-    /// The number of the rule that the word breaks; 0 where the code is 0 or 1.
+    /// The number of the rule that the word breaks; 0 if the code is 0 or 1.
     pub rule: u32,
     /// The word's place in the array, from 0.
     pub place: u32,
-    /// What stands there.
+    /// The number there.
     pub found: u32,
-    /// What would have to stand there, where the other words leave one choice; else 65535.
+    /// The number that would have to be there, if the other words leave only one choice; otherwise
+    /// 65535.
     pub wanted: u32,
 }
 
-/// What is told of a broken rule.
-fn told(words: &[u16; 144], fault: Fault, broken: Option<Broken>) -> AgcFinding
-    requires { IsAt broken }
+/// The report on a broken rule.
+fn finding_to_c(
+    words: &[u16; 144],
+    sets: u32,
+    fault: Fault,
+    broken: Option<BrokenRule>,
+) -> AgcFinding
+    requires { IsFound words.now sets broken }
     ensures code { result.code ≡ code_of fault }
     ensures place { result.place < 144 }
     ensures found { result.found ≡ slice_index words.now result.place }
+    ensures rule { ¬ (result.rule ≡ 0) → IsBroken result.rule words.now sets result.place }
 {
+    let _ = sets;
     match broken {
         Some(broken) => AgcFinding {
             code: fault.code(),
-            rule: broken.rule,
+            rule: broken.rule.number(),
             place: broken.place as u32,
             found: u32::from(words[broken.place]),
             wanted: broken.wanted,
@@ -47,16 +55,17 @@ fn told(words: &[u16; 144], fault: Fault, broken: Option<Broken>) -> AgcFinding
     }
 }
 
-/// Why the array has no image of so many core sets: the code that the calls answer, and the first
-/// word that breaks a rule: its place, what stands there, and what would have to, where the others
-/// leave no choice. Source: profile.
+/// The reason why the array has no image of this many core sets: the code of the calls on it, and
+/// the first word that breaks a rule: its place, the number there, and the one that would be right,
+/// if the other words leave only one choice.
 #[unsafe(no_mangle)]
 pub extern "C" fn agc_explain(words: &[u16; 144], sets: u32) -> AgcFinding
     ensures code { Coded result.code sets words.now (Unit {0}) (Unit {0}) (Unit {0}) }
-    ensures lawful { result.code ≡ 0 → result ≡ lawful_told }
+    ensures lawful { result.code ≡ 0 → result ≡ lawful_to_c }
     ensures no_sets { result.code ≡ 1 → result ≡ without_sets }
     ensures place { result.place < 144 }
     ensures found { 2 ≤ result.code → result.found ≡ slice_index words.now result.place }
+    ensures rule { ¬ (result.rule ≡ 0) → IsBroken result.rule words.now sets result.place }
 {
     match image_fault(words, sets) {
         None => AgcFinding {
@@ -76,7 +85,7 @@ pub extern "C" fn agc_explain(words: &[u16; 144], sets: u32) -> AgcFinding
                     wanted: 0,
                 };
             }
-            told(words, fault, first_broken(words, sets as usize))
+            finding_to_c(words, sets, fault, first_broken(words, sets as usize))
         }
     }
 }

@@ -1,4 +1,4 @@
-// The calls on a whole image, but for that which makes one.
+// The calls on a whole image, except the one that makes it.
 ghost use Rattle.std.specs.Prelude.{◌≡◌, ◌↔◌, true, false};
 ghost use Rattle.agc_image.specs.Codes.{Coded};
 ghost use Rattle.agc_image.specs.Images.{image_of, IsImage, Changed};
@@ -7,21 +7,21 @@ ghost use Rattle.libagc.specs.Beginnings.{Restarts};
 ghost use Rattle.libagc.specs.Tasks.{NoneDue};
 
 use crate::reply::AgcTruth;
-use agc_image::{Fault, blank, image_fault, open, seven, write_all, write_back};
+use agc_image::{Fault, blank_image, image_fault, open, seven, write_all, write_back};
 use agc_machine::migrate;
 
-/// Whether the array has an image of so many core sets, 7 or 8: code 0 exactly there, else 1, 2 or
-/// 3. Answers true between requests, and false inside a tick, where a task is due. Source: profile.
+/// Whether the array has an image of this many core sets, 7 or 8: code 0 exactly there, else 1, 2
+/// or 3. Answers true between requests, and false inside a tick, where a task is due.
 #[unsafe(no_mangle)]
 pub extern "C" fn agc_check(words: &[u16; 144], sets: u32) -> AgcTruth
     ensures code { Coded result.code sets words.now (Unit {0}) (Unit {0}) (Unit {0}) }
     ensures served { result.code ≡ 0 → (result.truth ≡ true) ↔ NoneDue sets words.now }
-    ensures refused { ¬ (result.code ≡ 0) → result.truth ≡ false }
+    ensures with_fault { ¬ (result.code ≡ 0) → result.truth ≡ false }
 {
     match image_fault(words, sets) {
-        Some(fault) => AgcTruth::refused(fault),
+        Some(fault) => AgcTruth::with_fault(fault),
         None => {
-            let mut image = blank(sets);
+            let mut image = blank_image(sets);
             open(words, sets, &mut image);
             AgcTruth {
                 code: 0,
@@ -38,12 +38,12 @@ pub extern "C" fn agc_check(words: &[u16; 144], sets: u32) -> AgcTruth
 pub extern "C" fn agc_restart(words: &mut [u16; 144], sets: u32) -> u32
     ensures code { Coded result sets words.old (Unit {0}) (Unit {0}) (Unit {0}) }
     ensures served { result ≡ 0 → Changed (Restarts sets) sets words.old words.new }
-    ensures refused { ¬ (result ≡ 0) → words.new ≡ words.old }
+    ensures with_fault { ¬ (result ≡ 0) → words.new ≡ words.old }
 {
     match image_fault(words, sets) {
         Some(fault) => fault.code(),
         None => {
-            let mut image = blank(sets);
+            let mut image = blank_image(sets);
             open(words, sets, &mut image);
             agc_exec::clear(&mut image);
             agc_wait::clear(&mut image);
@@ -54,13 +54,13 @@ pub extern "C" fn agc_restart(words: &mut [u16; 144], sets: u32) -> u32
 }
 
 /// The image of seven core sets becomes one of eight: words 0 to 131 stay, and core set 7 is added,
-/// free, at 132 to 143. Answers the code, 6 inside a tick, where a task is due. Source: profile.
+/// free, at 132 to 143. Answers the code, 6 inside a tick, where a task is due.
 #[unsafe(no_mangle)]
 pub extern "C" fn agc_migrate(words: &mut [u16; 144]) -> u32
     ensures code { Coded result 7 words.old (Unit {0}) (Unit {0}) (NoneDue 7 words.old) }
     ensures served { result ≡ 0
         → Migrates (image_of 7 words.old) words.new × IsImage 8 words.new }
-    ensures refused { ¬ (result ≡ 0) → words.new ≡ words.old }
+    ensures with_fault { ¬ (result ≡ 0) → words.new ≡ words.old }
 {
     match image_fault(words, 7) {
         Some(fault) => fault.code(),

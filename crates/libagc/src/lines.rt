@@ -5,16 +5,16 @@ ghost use Rattle.agc_plan.specs.declared.request.Action.{Action};
 ghost use Rattle.agc_plan.specs.declared.request.Request.{Request};
 ghost use Rattle.agc_plan.specs.Ranges.{IsRequest, IsAction};
 ghost use Rattle.agc_text.specs.Lines.{line_of, action_line_of};
-ghost use Rattle.libagc.specs.Spelled.{asked, numbers_of, action_numbers, ReadsRequest};
+ghost use Rattle.libagc.specs.Spelled.{request_with, numbers_of, action_numbers, ReadsRequest};
 ghost use Rattle.libagc.specs.Spelled.{ReadsAction};
 
 use agc_image::{AgcRequest, Fault};
 use agc_plan::{Action, Delay, Entry, Priority, Request, Task};
 use agc_text::{parse_action, parse_line};
 
-/// A kind and its numbers.
-fn asked(kind: u32, first: u32, second: u32, third: u32) -> AgcRequest
-    ensures { result ≡ asked kind first second third }
+/// A request of this kind, with these numbers.
+fn request_with(kind: u32, first: u32, second: u32, third: u32) -> AgcRequest
+    ensures { result ≡ request_with kind first second third }
 {
     AgcRequest {
         kind,
@@ -26,9 +26,9 @@ fn asked(kind: u32, first: u32, second: u32, third: u32) -> AgcRequest
 
 /// The numbers of a job's request of this kind.
 fn starting(kind: u32, priority: Priority, entry: Entry) -> AgcRequest
-    ensures { result ≡ asked kind priority entry.at entry.bank }
+    ensures { result ≡ request_with kind priority entry.at entry.bank }
 {
-    asked(
+    request_with(
         kind,
         u32::from(priority.get()),
         u32::from(entry.at.get()),
@@ -38,9 +38,9 @@ fn starting(kind: u32, priority: Priority, entry: Entry) -> AgcRequest
 
 /// The numbers of a listing.
 fn listing(delay: Delay, task: Task) -> AgcRequest
-    ensures { result ≡ asked 9 delay task.at task.bank }
+    ensures { result ≡ request_with 9 delay task.at task.bank }
 {
-    asked(
+    request_with(
         9,
         u32::from(delay.get()),
         u32::from(task.at.get()),
@@ -55,19 +55,24 @@ pub(crate) fn numbers_of(request: &Request) -> AgcRequest
     match *request {
         Request::Novac(priority, entry) => starting(1, priority, entry),
         Request::Findvac(priority, entry) => starting(2, priority, entry),
-        Request::EndOfJob => asked(3, 0, 0, 0),
-        Request::Sleep(at) => asked(4, u32::from(at.get()), 0, 0),
-        Request::Rouse(at) => asked(5, u32::from(at.get()), 0, 0),
-        Request::Prio(priority) => asked(6, u32::from(priority.get()), 0, 0),
-        Request::Change => asked(7, 0, 0, 0),
-        Request::Store(place, word) => asked(8, u32::from(place.get()), u32::from(word.bits()), 0),
+        Request::EndOfJob => request_with(3, 0, 0, 0),
+        Request::Sleep(at) => request_with(4, u32::from(at.get()), 0, 0),
+        Request::Rouse(at) => request_with(5, u32::from(at.get()), 0, 0),
+        Request::Prio(priority) => request_with(6, u32::from(priority.get()), 0, 0),
+        Request::Change => request_with(7, 0, 0, 0),
+        Request::Store(place, word) => request_with(
+            8,
+            u32::from(place.get()),
+            u32::from(word.bits()),
+            0,
+        ),
         Request::List(delay, task) => listing(delay, task),
-        Request::Tick => asked(10, 0, 0, 0),
+        Request::Tick => request_with(10, 0, 0, 0),
         Request::SetPhase(group, phase) => {
-            asked(11, u32::from(group.get()), u32::from(phase.get()), 0)
+            request_with(11, u32::from(group.get()), u32::from(phase.get()), 0)
         }
-        Request::Restart => asked(12, 0, 0, 0),
-        Request::Fresh => asked(13, 0, 0, 0),
+        Request::Restart => request_with(12, 0, 0, 0),
+        Request::Fresh => request_with(13, 0, 0, 0),
     }
 }
 
@@ -76,10 +81,10 @@ fn action_numbers(action: &Action) -> AgcRequest
     ensures { result ≡ action_numbers action.now }
 {
     match *action {
-        Action::Nothing => asked(0, 0, 0, 0),
+        Action::Nothing => request_with(0, 0, 0, 0),
         Action::Novac(priority, entry) => starting(1, priority, entry),
         Action::Findvac(priority, entry) => starting(2, priority, entry),
-        Action::Rouse(at) => asked(5, u32::from(at.get()), 0, 0),
+        Action::Rouse(at) => request_with(5, u32::from(at.get()), 0, 0),
         Action::List(delay, task) => listing(delay, task),
     }
 }
@@ -107,15 +112,15 @@ fn action_in(text: &[u8]) -> Option<Action>
 }
 
 /// The request that a line of a script spells, without the line's end: code 0, or 13, and then the
-/// request stays as it was. Source: profile.
+/// request stays as it was.
 #[unsafe(no_mangle)]
 pub extern "C" fn agc_read_request(text: &[u8], request: &mut AgcRequest) -> u32
-    // What is read is spelled by the text.
+    // The text is the spelling of the result.
     ensures found { result ≡ 0 → ReadsRequest text.now request.new }
     // The spelling of a request is read.
     ensures only { (r : Request) → IsRequest r → text.now ≡ line_of r
         → (result ≡ 0) × (request.new ≡ numbers_of r) }
-    ensures refused { ¬ (result ≡ 0) → (result ≡ 13) × (request.new ≡ request.old) }
+    ensures with_fault { ¬ (result ≡ 0) → (result ≡ 13) × (request.new ≡ request.old) }
 {
     match request_in(text) {
         Some(found) => {
@@ -127,15 +132,15 @@ pub extern "C" fn agc_read_request(text: &[u8], request: &mut AgcRequest) -> u32
 }
 
 /// The action that a line of a plan spells: `nothing`, or the line of a `novac`, `findvac`, `rouse`
-/// or `list`. Code 0, or 13, and then the action stays as it was. Source: profile.
+/// or `list`. Code 0, or 13, and then the action stays as it was.
 #[unsafe(no_mangle)]
 pub extern "C" fn agc_read_action(text: &[u8], action: &mut AgcRequest) -> u32
-    // What is read is spelled by the text.
+    // The text is the spelling of the result.
     ensures found { result ≡ 0 → ReadsAction text.now action.new }
     // The spelling of an action is read.
     ensures only { (a : Action) → IsAction a → text.now ≡ action_line_of a
         → (result ≡ 0) × (action.new ≡ action_numbers a) }
-    ensures refused { ¬ (result ≡ 0) → (result ≡ 13) × (action.new ≡ action.old) }
+    ensures with_fault { ¬ (result ≡ 0) → (result ≡ 13) × (action.new ≡ action.old) }
 {
     match action_in(text) {
         Some(found) => {

@@ -7,11 +7,11 @@ ghost use Rattle.agc_image.specs.Codes.{Coded, code_of};
 ghost use Rattle.agc_image.specs.Images.{IsImage, AreWords, Changed};
 ghost use Rattle.libagc.specs.Phases.{Records};
 
-use agc_image::{Fault, blank, image_fault, open, twelve, write_back};
+use agc_image::{Fault, blank_image, image_fault, open, twelve, write_back};
 use agc_phase::{Phases, record_alarm, recover, set_phase};
 
 /// The six phases in twelve phase words: a code, and the phases of groups 1 to 6, which are all 0
-/// if the code isn't 0. Source: profile.
+/// if the code isn't 0.
 #[repr(C)]
 #[derive(Clone, Copy)]
 pub struct AgcPhases {
@@ -22,8 +22,8 @@ pub struct AgcPhases {
 }
 
 impl AgcPhases {
-    /// The call was not served.
-    fn refused(fault: Fault) -> AgcPhases
+    /// The reply to a call that was not served.
+    fn with_fault(fault: Fault) -> AgcPhases
         ensures { result ≡ record { code = code_of fault; phases = replicate 6 0 } }
     {
         AgcPhases {
@@ -41,7 +41,7 @@ pub extern "C" fn agc_set_phase(words: &mut [u16; 144], sets: u32, group: u32, p
     ensures served { result ≡ 0
         → Changed (λ old new. Becomes (with_phase group phase (base_of old)) old new)
         sets words.old words.new }
-    ensures refused { ¬ (result ≡ 0) → words.new ≡ words.old }
+    ensures with_fault { ¬ (result ≡ 0) → words.new ≡ words.old }
 {
     match image_fault(words, sets) {
         Some(fault) => fault.code(),
@@ -50,7 +50,6 @@ pub extern "C" fn agc_set_phase(words: &mut [u16; 144], sets: u32, group: u32, p
 }
 
 /// As `agc_set_phase`, for an array that is known to have an image, as every call leaves it.
-/// Source: profile.
 #[unsafe(no_mangle)]
 pub extern "C" fn agc_set_phase_trusted(
     words: &mut [u16; 144],
@@ -63,7 +62,7 @@ pub extern "C" fn agc_set_phase_trusted(
     ensures served { result ≡ 0
         → Changed (λ old new. Becomes (with_phase group phase (base_of old)) old new)
         sets words.old words.new }
-    ensures refused { ¬ (result ≡ 0) → words.new ≡ words.old }
+    ensures with_fault { ¬ (result ≡ 0) → words.new ≡ words.old }
 {
     let Some(group) = agc_image::group(group) else {
         return Fault::OutOfRange.code();
@@ -71,7 +70,7 @@ pub extern "C" fn agc_set_phase_trusted(
     let Some(phase) = agc_image::phase(phase) else {
         return Fault::OutOfRange.code();
     };
-    let mut image = blank(sets);
+    let mut image = blank_image(sets);
     open(words, sets, &mut image);
     set_phase(&mut image, group, phase);
     write_back(&image, words);
@@ -79,13 +78,13 @@ pub extern "C" fn agc_set_phase_trusted(
 }
 
 /// Adds an alarm's code to FAILREG: 01107, 01201, 01202 or 01203. Answers the code of the call, 4
-/// where it is none of these. Source: profile.
+/// if it is none of these.
 #[unsafe(no_mangle)]
 pub extern "C" fn agc_record_alarm(words: &mut [u16; 144], sets: u32, alarm: u32) -> u32
     ensures code { Coded result sets words.old
         (IsSome (code_of_word alarm)) (Unit {0}) (Unit {0}) }
     ensures served { result ≡ 0 → Changed (Records alarm) sets words.old words.new }
-    ensures refused { ¬ (result ≡ 0) → words.new ≡ words.old }
+    ensures with_fault { ¬ (result ≡ 0) → words.new ≡ words.old }
 {
     match image_fault(words, sets) {
         Some(fault) => fault.code(),
@@ -94,19 +93,18 @@ pub extern "C" fn agc_record_alarm(words: &mut [u16; 144], sets: u32, alarm: u32
 }
 
 /// As `agc_record_alarm`, for an array that is known to have an image, as every call leaves it.
-/// Source: profile.
 #[unsafe(no_mangle)]
 pub extern "C" fn agc_record_alarm_trusted(words: &mut [u16; 144], sets: u32, alarm: u32) -> u32
     requires { IsImage sets words.old }
     ensures code { Coded result sets words.old
         (IsSome (code_of_word alarm)) (Unit {0}) (Unit {0}) }
     ensures served { result ≡ 0 → Changed (Records alarm) sets words.old words.new }
-    ensures refused { ¬ (result ≡ 0) → words.new ≡ words.old }
+    ensures with_fault { ¬ (result ≡ 0) → words.new ≡ words.old }
 {
     let Some(code) = agc_image::alarm_code(alarm) else {
         return Fault::OutOfRange.code();
     };
-    let mut image = blank(sets);
+    let mut image = blank_image(sets);
     open(words, sets, &mut image);
     record_alarm(&mut image, code);
     write_back(&image, words);
@@ -114,7 +112,7 @@ pub extern "C" fn agc_record_alarm_trusted(words: &mut [u16; 144], sets: u32, al
 }
 
 /// The phases as numbers.
-fn numbers_of(phases: &Phases) -> [u8; 6]
+pub(crate) fn numbers_of(phases: &Phases) -> [u8; 6]
     ensures { result ≡ phases.now }
 {
     let mut numbers = [0; 6];
@@ -137,9 +135,9 @@ pub extern "C" fn agc_recover(words: &[u16; 12]) -> AgcPhases
         ≡ (if result.code == 0 then phases_in words.now else replicate 6 0) }
 {
     match twelve(words) {
-        None => AgcPhases::refused(Fault::NotWords),
+        None => AgcPhases::with_fault(Fault::NotWords),
         Some(words) => match recover(&words) {
-            None => AgcPhases::refused(Fault::Unlawful),
+            None => AgcPhases::with_fault(Fault::Unlawful),
             Some(phases) => AgcPhases {
                 code: 0,
                 phases: numbers_of(&phases),

@@ -2,19 +2,18 @@
 ghost use Rattle.std.specs.Prelude.{◌≡◌};
 ghost use Rattle.agc_image.specs.Codes.{code_for};
 ghost use Rattle.agc_image.specs.Lacking.{lacking};
-ghost use Rattle.agc_image.specs.Written.{written_told};
+ghost use Rattle.agc_image.specs.Written.{plan_from_c};
 ghost use Rattle.agc_plan.specs.Quiet.{BeginsQuietly};
 
 use agc_image::{AgcPhaseEntry, AgcRow, plan_lacks};
 
 /// Whether rows and entries make a plan: 0, and then an era of it begins with no alarm, whatever
 /// the phases; or the first of 9, a number of them is out of its range, 10, a task has two rows,
-/// 11, a group's phase has two entries, and 12, each of the six groups wants a VAC area. Source:
-/// profile.
+/// 11, a group's phase has two entries, and 12, each of the six groups wants a VAC area.
 #[unsafe(no_mangle)]
 pub extern "C" fn agc_plan_check(rows: &[AgcRow], entries: &[AgcPhaseEntry]) -> u32
     ensures code { result ≡ code_for (lacking rows.now entries.now) }
-    ensures quiet { result ≡ 0 → BeginsQuietly (written_told rows.now entries.now) }
+    ensures quiet { result ≡ 0 → BeginsQuietly (plan_from_c rows.now entries.now) }
 {
     match plan_lacks(rows, entries) {
         None => 0,

@@ -1,4 +1,4 @@
-// Whether words of a caller's own are such as each step leaves them.
+// Whether a caller's words are as each step leaves them.
 ghost use Rattle.std.specs.Prelude.{◌≡◌, ◌<◌, true, false, [], slice_index_or};
 ghost use Rattle.agc_word.specs.Layout.{IsSized, sets_in};
 ghost use Rattle.agc_exec.specs.Blocks.{blocks_of};
@@ -35,7 +35,7 @@ fn is_tidy_set(e: &Erasable, k: usize) -> bool
     pushloc == 0
 }
 
-/// Whether each set is so.
+/// Whether all sets are tidy.
 fn are_tidy_sets(e: &Erasable) -> bool
     requires { IsSized e.now }
     ensures yes { result ≡ true → cores.IsTidy e.now }
@@ -78,7 +78,7 @@ fn is_ready(e: &Erasable) -> bool
     !agc_wait::due(e)
 }
 
-/// Why lawful words aren't between requests: a task is due, or else they aren't tidy.
+/// The fault of lawful words that aren't between requests: a task is due, or else they aren't tidy.
 pub(crate) fn time_fault(e: &Erasable) -> Option<Fault>
     requires { IsLawful e.now }
     ensures { Timed (code_for result) e.now }

@@ -1,19 +1,19 @@
-// What a call answers.
+// The replies of calls.
 ghost use Rattle.std.specs.Prelude.{◌≡◌, false};
 ghost use Rattle.agc_image.specs.Codes.{code_of};
-ghost use Rattle.libagc.specs.Replies.{alarm_code, told, refusal, listing};
+ghost use Rattle.libagc.specs.Replies.{alarm_code, reply_to_c, refusal, listing};
 
 use agc_image::Fault;
 use agc_plan::{Alarm, Reply};
 
-/// What a request is answered: a code, 0 where it was served, and then the kind of the reply, and
-/// its number: that of a job, an alarm as FAILREG has it, or 0. Source: profile.
+/// The reply to a request: a code, 0 if it was served, then the kind of the reply, and its number:
+/// that of a job, an alarm code as in FAILREG, or 0.
 #[repr(C)]
 #[derive(Clone, Copy)]
 pub struct AgcReply {
-    /// 0 where the request was served, else the code of what it lacked.
+    /// 0 if the request was served, else the code of what it lacked.
     pub code: u32,
-    /// The kind of the reply, 1 to 10; 0 where the request was not served.
+    /// The kind of the reply, 1 to 10; 0 if the request was not served.
     pub reply: u32,
     /// The number of the job that the reply names, or the alarm's code; else 0.
     pub number: u32,
@@ -32,7 +32,7 @@ pub(crate) fn alarm_code(alarm: Alarm) -> u32
 
 impl AgcReply {
     /// A reply of this kind, with this number.
-    fn said(reply: u32, number: u32) -> AgcReply
+    fn reply_with(reply: u32, number: u32) -> AgcReply
         ensures { result ≡ record { code = 0; reply = reply; number = number } }
     {
         AgcReply {
@@ -42,42 +42,42 @@ impl AgcReply {
         }
     }
 
-    /// What a reply is told as.
+    /// A reply in numbers.
     pub(crate) fn of(reply: &Reply) -> AgcReply
-        ensures reply { result ≡ told reply.now }
+        ensures reply { result ≡ reply_to_c reply.now }
         ensures served { result.code ≡ 0 }
     {
         match reply {
-            Reply::Established(number) => AgcReply::said(1, u32::from(number.get())),
-            Reply::Left(Some(number)) => AgcReply::said(2, u32::from(number.get())),
-            Reply::Left(None) => AgcReply::said(3, 0),
-            Reply::Roused(number) => AgcReply::said(4, u32::from(number.get())),
-            Reply::NoSleeper => AgcReply::said(5, 0),
-            Reply::NoJob => AgcReply::said(6, 0),
-            Reply::Runs(number) => AgcReply::said(7, u32::from(number.get())),
-            Reply::Stored => AgcReply::said(8, 0),
-            Reply::Listed => AgcReply::said(9, 0),
-            Reply::Alarmed(alarm) => AgcReply::said(10, alarm_code(*alarm)),
-            Reply::Phased => AgcReply::said(0, 0),
-            Reply::Ticked(_) => AgcReply::said(0, 0),
-            Reply::Restarted => AgcReply::said(0, 0),
+            Reply::Established(number) => AgcReply::reply_with(1, u32::from(number.get())),
+            Reply::Left(Some(number)) => AgcReply::reply_with(2, u32::from(number.get())),
+            Reply::Left(None) => AgcReply::reply_with(3, 0),
+            Reply::Roused(number) => AgcReply::reply_with(4, u32::from(number.get())),
+            Reply::NoSleeper => AgcReply::reply_with(5, 0),
+            Reply::NoJob => AgcReply::reply_with(6, 0),
+            Reply::Runs(number) => AgcReply::reply_with(7, u32::from(number.get())),
+            Reply::Stored => AgcReply::reply_with(8, 0),
+            Reply::Listed => AgcReply::reply_with(9, 0),
+            Reply::Alarmed(alarm) => AgcReply::reply_with(10, alarm_code(*alarm)),
+            Reply::Phased => AgcReply::reply_with(0, 0),
+            Reply::Ticked(_) => AgcReply::reply_with(0, 0),
+            Reply::Restarted => AgcReply::reply_with(0, 0),
         }
     }
 
-    /// What is told of a task that was to be listed.
+    /// The reply to listing a task.
     pub(crate) fn listing(accepted: bool) -> AgcReply
-        ensures reply { result ≡ told (listing accepted) }
+        ensures reply { result ≡ reply_to_c (listing accepted) }
         ensures served { result.code ≡ 0 }
     {
         if accepted {
-            AgcReply::said(9, 0)
+            AgcReply::reply_with(9, 0)
         } else {
-            AgcReply::said(10, alarm_code(Alarm::A1203))
+            AgcReply::reply_with(10, alarm_code(Alarm::A1203))
         }
     }
 
-    /// The call was not served.
-    pub(crate) fn refused(fault: Fault) -> AgcReply
+    /// The reply to a call that was not served.
+    pub(crate) fn with_fault(fault: Fault) -> AgcReply
         ensures { result ≡ refusal (code_of fault) }
     {
         AgcReply {
@@ -88,20 +88,19 @@ impl AgcReply {
     }
 }
 
-/// What a call answers by a number: a code, and the number, 0 where the code isn't. Source:
-/// profile.
+/// A number as a reply: a code, and the number, which is 0 if the code isn't.
 #[repr(C)]
 #[derive(Clone, Copy)]
 pub struct AgcNumber {
-    /// 0 where the call was served, else the code of what it lacked.
+    /// 0 if the call was served, else the code of what it lacked.
     pub code: u32,
     /// The number.
     pub number: u32,
 }
 
 impl AgcNumber {
-    /// The call was not served.
-    pub(crate) fn refused(fault: Fault) -> AgcNumber
+    /// The reply to a call that was not served.
+    pub(crate) fn with_fault(fault: Fault) -> AgcNumber
         ensures { result ≡ record { code = code_of fault; number = 0 } }
     {
         AgcNumber {
@@ -111,20 +110,19 @@ impl AgcNumber {
     }
 }
 
-/// What a call answers by yes or no: a code, and the answer, false where the code isn't 0. Source:
-/// profile.
+/// A yes or no as a reply: a code, and the answer, which is false if the code isn't 0.
 #[repr(C)]
 #[derive(Clone, Copy)]
 pub struct AgcTruth {
-    /// 0 where the call was served, else the code of what it lacked.
+    /// 0 if the call was served, else the code of what it lacked.
     pub code: u32,
     /// The answer.
     pub truth: bool,
 }
 
 impl AgcTruth {
-    /// The call was not served.
-    pub(crate) fn refused(fault: Fault) -> AgcTruth
+    /// The reply to a call that was not served.
+    pub(crate) fn with_fault(fault: Fault) -> AgcTruth
         ensures { result ≡ record { code = code_of fault; truth = false } }
     {
         AgcTruth {
@@ -134,12 +132,12 @@ impl AgcTruth {
     }
 }
 
-/// A task of the Waitlist: a code, and the task's address and its bank's word, both 0 where the
-/// code isn't. Source: profile.
+/// A task of the Waitlist: a code, and the task's address and its bank's word, both 0 if the code
+/// isn't.
 #[repr(C)]
 #[derive(Clone, Copy)]
 pub struct AgcTask {
-    /// 0 where the call was served, else the code of what it lacked.
+    /// 0 if the call was served, else the code of what it lacked.
     pub code: u32,
     /// Where the task begins.
     pub at: u32,
@@ -148,8 +146,8 @@ pub struct AgcTask {
 }
 
 impl AgcTask {
-    /// The call was not served.
-    pub(crate) fn refused(fault: Fault) -> AgcTask
+    /// The reply to a call that was not served.
+    pub(crate) fn with_fault(fault: Fault) -> AgcTask
         ensures { result ≡ record { code = code_of fault; at = 0; bank = 0 } }
     {
         AgcTask {

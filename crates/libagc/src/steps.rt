@@ -9,21 +9,22 @@ ghost use Rattle.agc_image.specs.Images.{IsImage, IsLawful, IsOpened, IsSets, Is
 ghost use Rattle.agc_image.specs.Lacking.{lacking};
 ghost use Rattle.agc_machine.specs.Stands.{IsReady, IsSound, Acts, StepsTo};
 ghost use Rattle.libagc.specs.Replies.{alarm_code};
-ghost use Rattle.libagc.specs.Stepping.{AreTold, Steps, Serves, Refuses, StepCoded, asked_code};
+ghost use Rattle.libagc.specs.Stepping.{AreHandedOut, Steps, Serves, Refuses, StepCoded};
+ghost use Rattle.libagc.specs.Stepping.{request_code};
 ghost use Rattle.libagc.specs.Stepping.{Lacks, plan_for};
-ghost use Rattle.libagc.specs.Stepping.{step_told, step_refusal, action_told};
+ghost use Rattle.libagc.specs.Stepping.{step_to_c, step_refusal, action_to_c};
 
 use crate::ready::time_fault;
 use crate::reply::alarm_code;
 use agc_image::{
-    AgcPhaseEntry, AgcRequest, AgcRow, Fault, Lent, asked_fault, blank, open, plan_lacks,
-    request_of, try_open, write_back,
+    AgcPhaseEntry, AgcRequest, AgcRow, BorrowedPlan, Fault, blank_image, open, plan_lacks,
+    request_fault, request_of, try_open, write_back,
 };
 use agc_machine::{act_words, finish_words};
 use agc_plan::{Fired, Reply, Request};
 use agc_word::Erasable;
 
-/// A task that fired. Source: profile.
+/// A task that fired.
 #[repr(C)]
 #[derive(Clone, Copy)]
 pub struct AgcFired {
@@ -33,7 +34,7 @@ pub struct AgcFired {
     pub bank: u32,
 }
 
-/// What a step returns. Source: profile.
+/// The result of a step.
 #[repr(C)]
 #[derive(Clone, Copy)]
 pub struct AgcStep {
@@ -52,8 +53,8 @@ pub struct AgcStep {
 }
 
 impl AgcStep {
-    /// The step was not served.
-    fn refused(fault: Fault) -> AgcStep
+    /// The result of a step that was not served.
+    fn with_fault(fault: Fault) -> AgcStep
         ensures { result ≡ step_refusal (code_of fault) }
     {
         AgcStep {
@@ -65,9 +66,9 @@ impl AgcStep {
         }
     }
 
-    /// What a reply is told as.
+    /// A reply in numbers.
     fn of(reply: &Reply, fired: u32, action: u32) -> AgcStep
-        ensures reply { result ≡ step_told reply.now fired action }
+        ensures reply { result ≡ step_to_c reply.now fired action }
         ensures served { result.code ≡ 0 }
     {
         let (kind, number) = match reply {
@@ -98,7 +99,7 @@ impl AgcStep {
 
 /// Writes the tasks that fired into the caller's places.
 fn hand_out(list: &Fired, fired: &mut [AgcFired; 9])
-    ensures { AreTold list.now fired.old fired.new }
+    ensures { AreHandedOut list.now fired.old fired.new }
 {
     for k in 0..list.len() {
         match list.get(k) {
@@ -114,8 +115,8 @@ fn hand_out(list: &Fired, fired: &mut [AgcFired; 9])
 }
 
 /// The number of an action.
-fn action_told(number: usize) -> u32
-    ensures { result ≡ action_told number }
+fn action_to_c(number: usize) -> u32
+    ensures { result ≡ action_to_c number }
 {
     match u32::try_from(number) {
         Ok(number) => number,
@@ -123,8 +124,8 @@ fn action_told(number: usize) -> u32
     }
 }
 
-/// An era begins in an image that an array has, where one begins with the reply.
-fn finish(plan: &Lent<'_>, reply: &Reply, image: &mut Erasable, words: &mut [u16; 144])
+/// Begins an era in the image of an array, if one begins with the reply.
+fn finish(plan: &BorrowedPlan<'_>, reply: &Reply, image: &mut Erasable, words: &mut [u16; 144])
     requires sound { IsSound image.old }
     requires none_due { begins reply.now ≡ false → due_now (waits_of image.old) ≡ 0 }
     requires written { IsWritten image.old words.old words.old }
@@ -144,7 +145,7 @@ fn finish(plan: &Lent<'_>, reply: &Reply, image: &mut Erasable, words: &mut [u16
 #[inline(always)]
 fn serve(
     words: &mut [u16; 144],
-    plan: &Lent<'_>,
+    plan: &BorrowedPlan<'_>,
     request: &Request,
     image: &mut Erasable,
     fired: &mut [AgcFired; 9],
@@ -162,19 +163,20 @@ fn serve(
     *moment = *words;
     finish(plan, &reply, image, words);
     hand_out(&list, fired);
-    AgcStep::of(&reply, list.len() as u32, action_told(action))
+    AgcStep::of(&reply, list.len() as u32, action_to_c(action))
 }
 
-/// A step isn't served: the moment has the words as they are.
+/// The result of a step that isn't served: the moment has the words as they are.
 fn refuse(words: &[u16; 144], moment: &mut [u16; 144], fault: Fault) -> AgcStep
     ensures moment { moment.new ≡ words.now }
     ensures result { result ≡ step_refusal (code_of fault) }
 {
     *moment = *words;
-    AgcStep::refused(fault)
+    AgcStep::with_fault(fault)
 }
 
-/// What a step lacks besides an image and a request: the time for it, tidy words, a plan.
+/// The fault of a step beyond those of image and request: the time for the step, tidy words, the
+/// plan.
 fn lacks(image: &Erasable, rows: &[AgcRow], entries: &[AgcPhaseEntry]) -> Option<Fault>
     requires { IsLawful image.now }
     ensures { Lacks (code_for result) image.now rows.now entries.now }
@@ -189,8 +191,8 @@ fn lacks(image: &Erasable, rows: &[AgcRow], entries: &[AgcPhaseEntry]) -> Option
 /// done, and an era begins by the plan's entries, where one begins with the reply. `fired` gets the
 /// tasks that fired in its first places, in order. `moment` gets the words as they were when the
 /// request was answered, before an era began with it, and the words as they are where the code
-/// isn't 0. Codes: 1 to 3 for the image, 4 and 5 for the request, 6 where a task is due, 8 where
-/// the words are such as no step leaves, 9 to 12 for the plan. Source: the request's own.
+/// isn't 0. Codes: 1 to 3 for the image, 4 and 5 for the request, 6 where a task is due, 8 if the
+/// words are such as no step leaves, 9 to 12 for the plan. Source: the request's own.
 #[unsafe(no_mangle)]
 pub extern "C" fn agc_step(
     words: &mut [u16; 144],
@@ -205,7 +207,7 @@ pub extern "C" fn agc_step(
         (code_for (lacking rows.now entries.now)) }
     ensures served { result.code ≡ 0 → Serves rows.now entries.now request.now sets words.old
         words.new moment.new fired.old fired.new result }
-    ensures refused { ¬ (result.code ≡ 0)
+    ensures with_fault { ¬ (result.code ≡ 0)
         → Refuses words.old words.new moment.new fired.old fired.new result }
 {
     match agc_image::sets(sets) {
@@ -215,11 +217,11 @@ pub extern "C" fn agc_step(
             match try_open(words, count, &mut image) {
                 Some(fault) => refuse(words, moment, fault),
                 None => match request_of(request) {
-                    None => refuse(words, moment, asked_fault(request)),
+                    None => refuse(words, moment, request_fault(request)),
                     Some(asked) => match lacks(&image, rows, entries) {
                         Some(fault) => refuse(words, moment, fault),
                         None => {
-                            let plan = Lent { rows, entries };
+                            let plan = BorrowedPlan { rows, entries };
                             serve(words, &plan, &asked, &mut image, fired, moment)
                         }
                     },
@@ -244,18 +246,18 @@ pub extern "C" fn agc_step_trusted(
 ) -> AgcStep
     requires image { IsImage sets words.old }
     requires ready { IsReady (image_of sets words.old) }
-    ensures code { result.code ≡ asked_code request.now }
+    ensures code { result.code ≡ request_code request.now }
     ensures served { result.code ≡ 0 → Serves rows.now entries.now request.now sets words.old
         words.new moment.new fired.old fired.new result }
-    ensures refused { ¬ (result.code ≡ 0)
+    ensures with_fault { ¬ (result.code ≡ 0)
         → Refuses words.old words.new moment.new fired.old fired.new result }
 {
     match request_of(request) {
-        None => refuse(words, moment, asked_fault(request)),
+        None => refuse(words, moment, request_fault(request)),
         Some(asked) => {
-            let mut image = blank(sets);
+            let mut image = blank_image(sets);
             open(words, sets, &mut image);
-            let plan = Lent { rows, entries };
+            let plan = BorrowedPlan { rows, entries };
             serve(words, &plan, &asked, &mut image, fired, moment)
         }
     }

@@ -1,4 +1,4 @@
-// What the tables hold: jobs, tasks, areas, phases and codes, one place a call.
+// The contents of the tables: jobs, tasks, areas, phases and codes, one place per call.
 ghost use Rattle.std.specs.Prelude.{◌≡◌, ◌-◌, ◌<◌, ◌≤◌, Some, None, Option, slice_get};
 ghost use Rattle.std.specs.Prelude.{slice_index};
 ghost use Rattle.agc_plan.specs.Ranges.{IsSix};
@@ -9,25 +9,25 @@ ghost use Rattle.agc_phase.specs.Image.{base_of, failreg_word};
 ghost use Rattle.agc_wait.specs.Table.{IsLawfulTable, waits_of};
 ghost use Rattle.agc_image.specs.Codes.{Coded, code_of};
 ghost use Rattle.agc_image.specs.Images.{IsImage, IsOpened, image_of};
-ghost use Rattle.libagc.specs.Replies.{number_told};
-ghost use Rattle.libagc.specs.Tables.{job_told, no_job, no_task, task_told, work_at};
+ghost use Rattle.libagc.specs.Replies.{number_to_c};
+ghost use Rattle.libagc.specs.Tables.{job_to_c, no_job, no_task, task_to_c, work_at};
 
 use crate::reply::AgcNumber;
 use agc_exec::{Seat, job_at, named_job};
-use agc_image::{Fault, blank, image_fault, open};
+use agc_image::{Fault, blank_image, image_fault, open};
 use agc_phase::{failreg, phases};
 use agc_wait::{Waiting, tasks_waiting};
 use agc_word::Erasable;
 use agc_word::layout::set_place;
 
-/// The job in a core set: a code, and the job; all 0 where the set is free, or the code isn't 0.
+/// The job in a core set: a code, and the job; all 0 if the set is free, or the code isn't 0.
 /// Source: the listings' EXECUTIVE section; numbers: profile.
 #[repr(C)]
 #[derive(Clone, Copy)]
 pub struct AgcJob {
-    /// 0 where the call was served, else the code of what it lacked.
+    /// 0 if the call was served, else the code of what it lacked.
     pub code: u32,
-    /// The job's number, 1 to 8; 0 where the set is free.
+    /// The job's number, 1 to 8; 0 if the set is free.
     pub number: u32,
     /// Its priority, 1 to 31.
     pub priority: u32,
@@ -43,12 +43,12 @@ pub struct AgcJob {
     pub work: [u16; 6],
 }
 
-/// A task that waits: a code, and the task; all 0 where no task has this place, or the code isn't
-/// 0. Source: the listings' WAITLIST section.
+/// A task that waits: a code, and the task; all 0 if no task has this place, or the code isn't 0.
+/// Source: the listings' WAITLIST section.
 #[repr(C)]
 #[derive(Clone, Copy)]
 pub struct AgcWaiting {
-    /// 0 where the call was served, else the code of what it lacked.
+    /// 0 if the call was served, else the code of what it lacked.
     pub code: u32,
     /// The address where the task begins, 1 to 16383; 0 for no task.
     pub at: u32,
@@ -60,7 +60,7 @@ pub struct AgcWaiting {
 
 impl AgcJob {
     /// The call was not served.
-    fn refused(fault: Fault) -> AgcJob
+    fn with_fault(fault: Fault) -> AgcJob
         ensures { result ≡ no_job (code_of fault) }
     {
         AgcJob::none(fault.code())
@@ -85,7 +85,7 @@ impl AgcJob {
 
 impl AgcWaiting {
     /// The call was not served.
-    fn refused(fault: Fault) -> AgcWaiting
+    fn with_fault(fault: Fault) -> AgcWaiting
         ensures { result ≡ no_task (code_of fault) }
     {
         AgcWaiting::none(fault.code())
@@ -119,10 +119,10 @@ fn work_at(words: &[u16; 144], place: usize) -> [u16; 6]
     ]
 }
 
-/// What a core set holds, in numbers.
-fn job_told(words: &[u16; 144], set: usize, seat: Option<Seat>) -> AgcJob
+/// The contents of a core set, in numbers.
+pub(crate) fn job_to_c(words: &[u16; 144], set: usize, seat: Option<Seat>) -> AgcJob
     requires { set ≤ 7 }
-    ensures told { result ≡ job_told set words.now seat }
+    ensures job_number_to_c { result ≡ job_to_c set words.now seat }
     ensures served { result.code ≡ 0 }
 {
     match seat {
@@ -140,52 +140,52 @@ fn job_told(words: &[u16; 144], set: usize, seat: Option<Seat>) -> AgcJob
     }
 }
 
-/// The job in a core set, counted from 0. Code 4 where there is no such set. Source: the listings'
+/// The job in a core set, counted from 0. Code 4 if there is no such set. Source: the listings'
 /// EXECUTIVE section; numbers: profile.
 #[unsafe(no_mangle)]
 pub extern "C" fn agc_job_at(words: &[u16; 144], sets: u32, set: u32) -> AgcJob
     ensures code { Coded result.code sets words.now (set < sets) (Unit {0}) (Unit {0}) }
     ensures served { (seat : Option exec.Seat) → result.code ≡ 0
         → slice_get (seats_in (image_of sets words.now)) set ≡ Some seat
-        → result ≡ job_told set words.now seat }
-    ensures refused { ¬ (result.code ≡ 0) → result ≡ no_job result.code }
+        → result ≡ job_to_c set words.now seat }
+    ensures with_fault { ¬ (result.code ≡ 0) → result ≡ no_job result.code }
 {
     match image_fault(words, sets) {
-        Some(fault) => AgcJob::refused(fault),
+        Some(fault) => AgcJob::with_fault(fault),
         None => {
             if set >= sets {
-                return AgcJob::refused(Fault::OutOfRange);
+                return AgcJob::with_fault(Fault::OutOfRange);
             }
-            let mut image = blank(sets);
+            let mut image = blank_image(sets);
             open(words, sets, &mut image);
-            job_told(words, set as usize, job_at(&image, set as usize))
+            job_to_c(words, set as usize, job_at(&image, set as usize))
         }
     }
 }
 
-/// The number of the job that NEWJOB names, which a change of job lets run: the best, where it is
+/// The number of the job that NEWJOB names, which a change of job lets run: the best, if it is
 /// strictly more urgent than the one that runs; 0 for none. Source: the listings' EXECUTIVE
 /// section; numbers: profile.
 #[unsafe(no_mangle)]
 pub extern "C" fn agc_next(words: &[u16; 144], sets: u32) -> AgcNumber
     ensures code { Coded result.code sets words.now (Unit {0}) (Unit {0}) (Unit {0}) }
     ensures served { result.code ≡ 0
-        → result.number ≡ number_told (named_of (jobs_in (image_of sets words.now))) }
-    ensures refused { ¬ (result.code ≡ 0) → result.number ≡ 0 }
+        → result.number ≡ number_to_c (named_of (jobs_in (image_of sets words.now))) }
+    ensures with_fault { ¬ (result.code ≡ 0) → result.number ≡ 0 }
 {
     match image_fault(words, sets) {
-        Some(fault) => AgcNumber::refused(fault),
+        Some(fault) => AgcNumber::with_fault(fault),
         None => {
-            let mut image = blank(sets);
+            let mut image = blank_image(sets);
             open(words, sets, &mut image);
-            told(named_job(&image))
+            job_number_to_c(named_job(&image))
         }
     }
 }
 
 /// A job's number, 0 for none.
-fn told(job: Option<u16>) -> AgcNumber
-    ensures number { result.number ≡ number_told job }
+pub(crate) fn job_number_to_c(job: Option<u16>) -> AgcNumber
+    ensures number { result.number ≡ number_to_c job }
     ensures served { result.code ≡ 0 }
 {
     match job {
@@ -198,7 +198,7 @@ fn told(job: Option<u16>) -> AgcNumber
 }
 
 /// The task that comes due as number `place` of those that wait, counted from 0.
-fn waiting_at(image: &Erasable, place: usize) -> Option<Waiting>
+pub(crate) fn waiting_at(image: &Erasable, place: usize) -> Option<Waiting>
     requires { IsLawfulTable image.now }
     ensures { result ≡ slice_get (waits_of image.now) place }
 {
@@ -210,8 +210,8 @@ fn waiting_at(image: &Erasable, place: usize) -> Option<Waiting>
 }
 
 /// A task that waits, or none, in numbers.
-fn task_told(waiting: Option<Waiting>) -> AgcWaiting
-    ensures told { result ≡ task_told waiting }
+pub(crate) fn task_to_c(waiting: Option<Waiting>) -> AgcWaiting
+    ensures job_number_to_c { result ≡ task_to_c waiting }
     ensures served { result.code ≡ 0 }
 {
     match waiting {
@@ -226,45 +226,45 @@ fn task_told(waiting: Option<Waiting>) -> AgcWaiting
 }
 
 /// The task that comes due as number `place` of those that wait, counted from 0, and the
-/// centiseconds that are left to it. Code 4 where there is no such place, from 9 on. Source: the
+/// centiseconds that are left to it. Code 4 if there is no such place, from 9 on. Source: the
 /// listings' WAITLIST section.
 #[unsafe(no_mangle)]
 pub extern "C" fn agc_task_at(words: &[u16; 144], sets: u32, place: u32) -> AgcWaiting
     ensures code { Coded result.code sets words.now (place < 9) (Unit {0}) (Unit {0}) }
     ensures served { result.code ≡ 0
-        → result ≡ task_told (slice_get (waits_of (image_of sets words.now)) place) }
-    ensures refused { ¬ (result.code ≡ 0) → result ≡ no_task result.code }
+        → result ≡ task_to_c (slice_get (waits_of (image_of sets words.now)) place) }
+    ensures with_fault { ¬ (result.code ≡ 0) → result ≡ no_task result.code }
 {
     match image_fault(words, sets) {
-        Some(fault) => AgcWaiting::refused(fault),
+        Some(fault) => AgcWaiting::with_fault(fault),
         None => {
             if place >= 9 {
-                return AgcWaiting::refused(Fault::OutOfRange);
+                return AgcWaiting::with_fault(Fault::OutOfRange);
             }
-            let mut image = blank(sets);
+            let mut image = blank_image(sets);
             open(words, sets, &mut image);
-            task_told(waiting_at(&image, place as usize))
+            task_to_c(waiting_at(&image, place as usize))
         }
     }
 }
 
-/// The phase, 0 to 127, of a restart group, 1 to 6. Code 4 where there is no such group. Source:
-/// the listings' PHASE TABLE MAINTENANCE section.
+/// The phase, 0 to 127, of a restart group, 1 to 6. Code 4 if there is no such group. Source: the
+/// listings' PHASE TABLE MAINTENANCE section.
 #[unsafe(no_mangle)]
 pub extern "C" fn agc_phase_at(words: &[u16; 144], sets: u32, group: u32) -> AgcNumber
     ensures code { Coded result.code sets words.now (IsSix group) (Unit {0}) (Unit {0}) }
     ensures served { result.code ≡ 0
         → result.number
         ≡ slice_index (base_of (image_of sets words.now)).phases (group - 1) }
-    ensures refused { ¬ (result.code ≡ 0) → result.number ≡ 0 }
+    ensures with_fault { ¬ (result.code ≡ 0) → result.number ≡ 0 }
 {
     match image_fault(words, sets) {
-        Some(fault) => AgcNumber::refused(fault),
+        Some(fault) => AgcNumber::with_fault(fault),
         None => {
             let Some(group) = agc_image::group(group) else {
-                return AgcNumber::refused(Fault::OutOfRange);
+                return AgcNumber::with_fault(Fault::OutOfRange);
             };
-            let mut image = blank(sets);
+            let mut image = blank_image(sets);
             open(words, sets, &mut image);
             AgcNumber {
                 code: 0,
@@ -275,29 +275,29 @@ pub extern "C" fn agc_phase_at(words: &[u16; 144], sets: u32, group: u32) -> Agc
 }
 
 /// A word of FAILREG, by its place.
-fn failreg_at(image: &Erasable, place: usize) -> u32
+pub(crate) fn failreg_at(image: &Erasable, place: usize) -> u32
     requires { place < 3 }
     ensures { result ≡ failreg_word image.now place }
 {
     u32::from(failreg(image)[place].bits())
 }
 
-/// A word of FAILREG: 0 the first code, 1 the second, 2 the latest; 0 where there is none. Code 4
-/// where there is no such word. Source: profile.
+/// A word of FAILREG: 0 the first code, 1 the second, 2 the latest; 0 if there is none. Code 4 if
+/// there is no such word.
 #[unsafe(no_mangle)]
 pub extern "C" fn agc_failreg(words: &[u16; 144], sets: u32, place: u32) -> AgcNumber
     ensures code { Coded result.code sets words.now (place < 3) (Unit {0}) (Unit {0}) }
     ensures served { result.code ≡ 0
         → result.number ≡ failreg_word (image_of sets words.now) place }
-    ensures refused { ¬ (result.code ≡ 0) → result.number ≡ 0 }
+    ensures with_fault { ¬ (result.code ≡ 0) → result.number ≡ 0 }
 {
     match image_fault(words, sets) {
-        Some(fault) => AgcNumber::refused(fault),
+        Some(fault) => AgcNumber::with_fault(fault),
         None => {
             if place >= 3 {
-                return AgcNumber::refused(Fault::OutOfRange);
+                return AgcNumber::with_fault(Fault::OutOfRange);
             }
-            let mut image = blank(sets);
+            let mut image = blank_image(sets);
             open(words, sets, &mut image);
             AgcNumber {
                 code: 0,

@@ -5,26 +5,25 @@ ghost use Rattle.agc_image.specs.Images.{IsImage};
 
 use crate::reply::AgcNumber;
 use crate::steps::{AgcFired, AgcStep};
-use agc_image::{Fault, address, blank, image_fault, open, word};
+use agc_image::{Fault, Rule, address, blank_image, image_fault, open, word};
 use agc_machine::Totals;
 use agc_plan::{Alarm, Fired, JobNo, Reply, Task};
 use agc_text::{put_reply, report};
 use arrayvec::ArrayVec;
 
-/// Counts of served requests, for the last lines of a report. The caller keeps them. Source:
-/// profile.
+/// Counts of served requests, for the last lines of a report. The caller keeps them.
 #[repr(C)]
 #[derive(Clone, Copy)]
 pub struct AgcTotals {
     /// All requests that were served.
     pub served: u64,
-    /// Those that raised alarm 1201.
+    /// Requests that raised alarm 1201.
     pub alarms_1201: u64,
-    /// Those that raised alarm 1202.
+    /// Requests that raised alarm 1202.
     pub alarms_1202: u64,
-    /// Those that raised alarm 1203.
+    /// Requests that raised alarm 1203.
     pub alarms_1203: u64,
-    /// Those with which an era began.
+    /// Requests with which an era began.
     pub restarts: u64,
 }
 
@@ -46,7 +45,7 @@ fn alarm_of(number: u32) -> Option<Alarm> {
     }
 }
 
-/// The reply that a step tells. None where it tells none.
+/// The reply that a step tells. None if it tells none.
 fn reply_of(step: &AgcStep) -> Option<Reply> {
     match step.reply {
         1 => Some(Reply::Established(job_of(step.number)?)),
@@ -75,7 +74,7 @@ fn task_of(fired: &AgcFired) -> Option<Task> {
     }
 }
 
-/// The first tasks of those that fired. None where one of them is no task, or there are more than
+/// The first tasks of those that fired. None if one of them is no task, or there are more than
 /// nine.
 fn fired_of(fired: &[AgcFired; 9], count: u32) -> Option<Fired> {
     let mut list = Fired::new();
@@ -93,7 +92,7 @@ fn fired_of(fired: &[AgcFired; 9], count: u32) -> Option<Fired> {
 /// Writes a text into room that is lent, if it fits: how many bytes it has.
 fn hand_out(line: &[u8], text: &mut [u8]) -> AgcNumber
     ensures code { (result.code ≡ 0) ⊎ (result.code ≡ 14) }
-    ensures refused { ¬ (result.code ≡ 0) → text.new ≡ text.old }
+    ensures with_fault { ¬ (result.code ≡ 0) → text.new ≡ text.old }
 {
     let number = match u32::try_from(line.len()) {
         Ok(number) => number,
@@ -110,29 +109,41 @@ fn hand_out(line: &[u8], text: &mut [u8]) -> AgcNumber
 }
 
 /// Writes the line that `agc` writes for a step's reply, with its end and no zero byte, at most 128
-/// bytes: code 0 and how many bytes; 14 and how many it wants where they don't fit, and then
-/// nothing is written; 4 where it is of no kind, or names no job or alarm though its kind does,
-/// where more than nine tasks fired, or where one that fired is none. Source: profile.
+/// bytes: code 0 and how many bytes; 14 and how many it wants if they don't fit, and then nothing
+/// is written; 4 if it is of no kind, or names no job or alarm though its kind does, where more
+/// than nine tasks fired, or where one that fired is none.
 #[unsafe(no_mangle)]
 pub extern "C" fn agc_write_reply(
     step: &AgcStep,
     fired: &[AgcFired; 9],
     text: &mut [u8],
 ) -> AgcNumber
-    ensures refused { ¬ (result.code ≡ 0) → text.new ≡ text.old }
+    ensures with_fault { ¬ (result.code ≡ 0) → text.new ≡ text.old }
 {
     let mut line: ArrayVec<u8, 128> = ArrayVec::new();
     match (reply_of(step), fired_of(fired, step.fired)) {
         (Some(reply), Some(list)) => match put_reply(&mut line, reply, &list) {
             Ok(()) => hand_out(line.as_slice(), text),
-            Err(_output) => AgcNumber::refused(Fault::OutOfRange),
+            Err(_output) => AgcNumber::with_fault(Fault::OutOfRange),
         },
-        _ => AgcNumber::refused(Fault::OutOfRange),
+        _ => AgcNumber::with_fault(Fault::OutOfRange),
+    }
+}
+
+/// Writes the rule of lawful words that has this number, 1 to 19, as a sentence, as
+/// `agc_write_reply` does; code 4 for a number that no rule has.
+#[unsafe(no_mangle)]
+pub extern "C" fn agc_write_rule(rule: u32, text: &mut [u8]) -> AgcNumber
+    ensures refused { ¬ (result.code ≡ 0) → text.new ≡ text.old }
+{
+    match Rule::of_number(rule) {
+        Some(rule) => hand_out(rule.text().as_bytes(), text),
+        None => AgcNumber::with_fault(Fault::OutOfRange),
     }
 }
 
 /// Writes the report that `agc` writes of these words and counts, at most 2048 bytes, as
-/// `agc_write_reply` does; code 1, 2 or 3 where the array has no image. Source: profile.
+/// `agc_write_reply` does; code 1, 2 or 3 if the array has no image.
 #[unsafe(no_mangle)]
 pub extern "C" fn agc_write_report(
     words: &[u16; 144],
@@ -144,12 +155,12 @@ pub extern "C" fn agc_write_report(
         → Coded result.code sets words.now (Unit {0}) (Unit {0}) (Unit {0}) }
     ensures opened { IsImage sets words.now
         → (result.code ≡ 0) ⊎ (result.code ≡ 4) ⊎ (result.code ≡ 14) }
-    ensures refused { ¬ (result.code ≡ 0) → text.new ≡ text.old }
+    ensures with_fault { ¬ (result.code ≡ 0) → text.new ≡ text.old }
 {
     match image_fault(words, sets) {
-        Some(fault) => AgcNumber::refused(fault),
+        Some(fault) => AgcNumber::with_fault(fault),
         None => {
-            let mut image = blank(sets);
+            let mut image = blank_image(sets);
             open(words, sets, &mut image);
             let totals = Totals {
                 served: totals.served,
@@ -161,7 +172,7 @@ pub extern "C" fn agc_write_report(
             let mut lines: ArrayVec<u8, 2048> = ArrayVec::new();
             match report(image.sets(), &image.words(), &totals, &mut lines) {
                 Ok(()) => hand_out(lines.as_slice(), text),
-                Err(_output) => AgcNumber::refused(Fault::OutOfRange),
+                Err(_output) => AgcNumber::with_fault(Fault::OutOfRange),
             }
         }
     }

@@ -1,4 +1,4 @@
-// What a caller's timetable lacks.
+// The faults of a caller's timetable.
 ghost use Rattle.std.specs.Prelude.{◌≡◌};
 ghost use Rattle.agc_image.specs.Codes.{code_for};
 ghost use Rattle.libagc.specs.LateTimes.{is_steal, is_step, are_steps, is_cost, is_coming};
@@ -6,7 +6,7 @@ ghost use Rattle.libagc.specs.LateTimes.{is_event};
 ghost use Rattle.libagc.specs.LateTimes.{are_steals, are_costs, are_events, are_requests};
 ghost use Rattle.libagc.specs.LateTimes.{meets, steals_twice, has_cost, costs_twice, times_lack};
 
-use crate::timetable::{AgcCost, AgcEvent, asked_by};
+use crate::timetable::{AgcCost, AgcEvent, requests_from};
 use agc_clock::{LAST_TIME, Stolen, step_of};
 use agc_image::{AgcRequest, Fault, address, request_of};
 
@@ -30,7 +30,7 @@ fn is_step(numbers: &AgcRequest) -> bool
     }
 }
 
-/// Whether all these are.
+/// Whether all requests are steps of a job.
 fn are_steps(requests: &[AgcRequest]) -> bool
     ensures { result ≡ are_steps requests.now }
 {
@@ -52,7 +52,7 @@ fn is_cost(row: &AgcCost, requests: &[AgcRequest]) -> bool
         && (row.then == 0 || address(row.then).is_some())
         && row.count <= 7
         && row.first as usize + row.count as usize <= requests.len()
-        && are_steps(asked_by(requests, row.first, row.count))
+        && are_steps(requests_from(requests, row.first, row.count))
 }
 
 /// Whether an event's times are in range, and what they count from.
@@ -64,7 +64,7 @@ fn is_coming(row: &AgcEvent) -> bool
         && (row.after == 0 || (0o1201 <= row.after && row.after <= 0o1203))
 }
 
-/// Whether numbers are an event's, which asks for some of so many requests.
+/// Whether numbers are an event's, which asks for some of this many requests.
 fn is_event(row: &AgcEvent, requests: usize) -> bool
     ensures { result ≡ is_event requests row.now }
 {
@@ -86,7 +86,7 @@ fn are_steals(rows: &[Stolen]) -> bool
     true
 }
 
-/// Whether all costs are.
+/// Whether the numbers of all rows are costs.
 fn are_costs(rows: &[AgcCost], requests: &[AgcRequest]) -> bool
     ensures { result ≡ are_costs requests.now rows.now }
 {
@@ -98,7 +98,7 @@ fn are_costs(rows: &[AgcCost], requests: &[AgcRequest]) -> bool
     true
 }
 
-/// Whether all events are.
+/// Whether the numbers of all rows are events.
 fn are_events(rows: &[AgcEvent], requests: usize) -> bool
     ensures { result ≡ are_events requests rows.now }
 {
@@ -110,7 +110,7 @@ fn are_events(rows: &[AgcEvent], requests: usize) -> bool
     true
 }
 
-/// Whether all requests are.
+/// Whether the numbers of all rows are requests.
 fn are_requests(requests: &[AgcRequest]) -> bool
     ensures { result ≡ are_requests requests.now }
 {
@@ -122,7 +122,7 @@ fn are_requests(requests: &[AgcRequest]) -> bool
     true
 }
 
-/// Whether a row of stolen time overlaps one of these.
+/// Whether a row of stolen time overlaps another.
 fn meets(row: &Stolen, others: &[Stolen]) -> bool
     ensures { result ≡ meets row.now others.now }
 {
@@ -158,7 +158,7 @@ fn has_cost(at: u32, rows: &[AgcCost]) -> bool
     false
 }
 
-/// Whether an address has two.
+/// Whether an address has two costs.
 fn costs_twice(rows: &[AgcCost]) -> bool
     ensures { result ≡ costs_twice rows.now }
 {
@@ -170,7 +170,7 @@ fn costs_twice(rows: &[AgcCost]) -> bool
     false
 }
 
-/// What rows lack to be a timetable: the first thing that is wrong.
+/// The first fault for which rows are no timetable.
 pub(crate) fn times_lack(
     stolen: &[Stolen],
     costs: &[AgcCost],
@@ -198,7 +198,6 @@ pub(crate) fn times_lack(
 
 /// Whether rows make a timetable: 0, or the first of 15, a number of them is out of its range, 16,
 /// two rows of stolen time that come only once hold at one time, and 17, an address has two costs.
-/// Source: profile.
 #[unsafe(no_mangle)]
 pub extern "C" fn agc_clock_check(
     stolen: &[Stolen],

@@ -1,68 +1,67 @@
 // A timetable in memory of a caller's own.
 ghost use Rattle.std.specs.Prelude.{◌≡◌};
-ghost use Rattle.libagc.specs.LentTimes.{address_for, then_told, cost_told, times_told};
-ghost use Rattle.libagc.specs.LentTimes.{distances_told, event_after, event_at};
-ghost use Rattle.libagc.specs.LentTimes.{request_for, asked_by, step_in, steps_told};
-ghost use Rattle.libagc.specs.LentTimes.{timetable_told};
+ghost use Rattle.libagc.specs.BorrowedTimes.{address_for, then_from_c, cost_from_c, times_from_c};
+ghost use Rattle.libagc.specs.BorrowedTimes.{distances_from_c, event_after, event_at};
+ghost use Rattle.libagc.specs.BorrowedTimes.{request_for, requests_from, step_in, steps_from_c};
+ghost use Rattle.libagc.specs.BorrowedTimes.{timetable_from_c};
 
 use agc_clock::{Cost, Step, Stolen, Then, Times, Timetables, step_of};
 use agc_image::{AgcRequest, address, request_of};
 use agc_plan::{Address, Request};
 
-/// What a job at an address costs, and what it does when that is used up: it asks for some of the
-/// requests that are handed to the call, and leaves. Source: profile.
+/// The cost of a job at an address, and what the job does when that is used up: it makes some of
+/// the requests that the call is given, and leaves.
 #[repr(C)]
 #[derive(Clone, Copy)]
 pub struct AgcCost {
     /// The address, 1 to 16383.
     pub at: u32,
-    /// The cost in hundredths of a centisecond of computing, 1 to 100,000,000; the greatest where
-    /// it is by lot.
+    /// The cost in hundredths of a centisecond of computing, 1 to 100,000,000; the greatest if it
+    /// is by lot.
     pub hundredths: u32,
-    /// 0 where the job at last ends; else the address at which it sleeps, 1 to 16383.
+    /// 0 if the job ends at last; otherwise the address at which it sleeps, 1 to 16383.
     pub then: u32,
-    /// The place of the first request that it asks for before, from 0.
+    /// The place of its first request before that, from 0.
     pub first: u32,
-    /// How many these are, 0 to 7.
+    /// The number of these requests, 0 to 7.
     pub count: u32,
-    /// By how many hundredths it may cost less, by lot, fewer than its cost; 0 where it may not.
+    /// The hundredths by which a draw may reduce the cost, fewer than the cost; 0 if it is fixed.
     pub spread: u32,
 }
 
-/// When an event comes, in centiseconds since the start or since the first alarm of a code, 0 to
-/// 8,640,000, and what it then asks for. Source: profile.
+/// An event: when it comes, in centiseconds since the start or since the first alarm of a code, 0
+/// to 8,640,000, and the requests that it makes then.
 #[repr(C)]
 #[derive(Clone, Copy)]
 pub struct AgcEvent {
     /// The first time.
     pub at: u32,
-    /// After how many centiseconds it comes again; 0 where it comes once.
+    /// After how many centiseconds it comes again; 0 if it comes once.
     pub every: u32,
-    /// Where it comes again, the last time at which it may.
+    /// The last time at which it may come again.
     pub until: u32,
     /// The place of its first request among those of all events, from 0.
     pub first: u32,
     /// How many requests it has, 1 to 16.
     pub count: u32,
-    /// 0 where its times count from the start. Else they are distances from the first alarm of this
-    /// code, and the event doesn't come before `agc_clock_told` was told of that.
+    /// 0 if its times count from the start. Otherwise they are distances from the first alarm of
+    /// this code, and the event doesn't come until `agc_clock_told` reports that alarm.
     pub after: u32,
 }
 
 /// A timetable whose rows lie in memory of a caller's own: an address out of its range counts as
-/// 16383, numbers that are no request as a change of job, which is no step of a job. Source:
-/// profile.
+/// 16383, numbers that are no request as a change of job, which is no step of a job.
 #[derive(Clone, Copy)]
-pub(crate) struct LentTimes<'a> {
+pub(crate) struct BorrowedTimes<'a> {
     /// How many centiseconds it lasts.
     pub(crate) lasts: u32,
     /// Stolen time.
     pub(crate) stolen: &'a [Stolen],
-    /// What jobs cost.
+    /// The costs of jobs.
     pub(crate) costs: &'a [AgcCost],
     /// The events.
     pub(crate) events: &'a [AgcEvent],
-    /// What events and jobs ask for.
+    /// The requests of events and jobs.
     pub(crate) requests: &'a [AgcRequest],
 }
 
@@ -76,7 +75,7 @@ fn last_address() -> Address
     }
 }
 
-/// An address.
+/// The address of a number; 16383 for one out of range.
 fn address_for(number: u32) -> Address
     ensures { result ≡ address_for number }
 {
@@ -86,9 +85,9 @@ fn address_for(number: u32) -> Address
     }
 }
 
-/// What a job does then.
+/// The way in which a job leaves.
 fn then_of(number: u32) -> Then
-    ensures { result ≡ then_told number }
+    ensures { result ≡ then_from_c number }
 {
     if number == 0 {
         Then::End
@@ -99,7 +98,7 @@ fn then_of(number: u32) -> Then
 
 /// An event's times, whatever they count from.
 fn distances_of(row: &AgcEvent) -> Times
-    ensures { result ≡ distances_told row.now }
+    ensures { result ≡ distances_from_c row.now }
 {
     match Times::repeated(row.at, row.every, row.until) {
         Some(times) => times,
@@ -109,7 +108,7 @@ fn distances_of(row: &AgcEvent) -> Times
 
 /// When an event comes.
 fn times_of(row: &AgcEvent) -> Times
-    ensures { result ≡ times_told row.now }
+    ensures { result ≡ times_from_c row.now }
 {
     let times = distances_of(row);
     if row.after == 0 {
@@ -121,7 +120,7 @@ fn times_of(row: &AgcEvent) -> Times
 
 /// An event that counts from the start from now on, with the times that it has if the first alarm
 /// of its code came at this time.
-fn told_event(row: &AgcEvent, time: u32) -> AgcEvent
+fn event_from_alarm(row: &AgcEvent, time: u32) -> AgcEvent
     ensures { result ≡ event_at time row.now }
 {
     let times = distances_of(row).after(Some(time));
@@ -134,18 +133,18 @@ fn told_event(row: &AgcEvent, time: u32) -> AgcEvent
     }
 }
 
-/// An event after an alarm of this code, 0 where there was none, at this time.
+/// An event after an alarm of this code, 0 if there was none, at this time.
 pub(crate) fn event_after(row: &AgcEvent, alarm: u32, time: u32) -> AgcEvent
     ensures { result ≡ event_after alarm time row.now }
 {
     if alarm != 0 && row.after == alarm {
-        told_event(row, time)
+        event_from_alarm(row, time)
     } else {
         *row
     }
 }
 
-/// A request.
+/// The request of numbers; a change of job if they are none.
 fn request_for(numbers: &AgcRequest) -> Request
     ensures { result ≡ request_for numbers.now }
 {
@@ -155,9 +154,9 @@ fn request_for(numbers: &AgcRequest) -> Request
     }
 }
 
-/// So many requests, from the first on.
-pub(crate) fn asked_by(requests: &[AgcRequest], first: u32, count: u32) -> &[AgcRequest]
-    ensures { result.now ≡ asked_by requests.now first count }
+/// `count` of the requests, from the first on.
+pub(crate) fn requests_from(requests: &[AgcRequest], first: u32, count: u32) -> &[AgcRequest]
+    ensures { result.now ≡ requests_from requests.now first count }
 {
     let first = (first as usize).min(requests.len());
     let rest = &requests[first..];
@@ -177,9 +176,9 @@ fn step_in(requests: &[AgcRequest], number: usize) -> Option<Step>
 
 /// The steps of a job.
 fn steps_of(requests: &[AgcRequest], row: &AgcCost) -> [Option<Step>; 7]
-    ensures { result ≡ steps_told requests.now row.now }
+    ensures { result ≡ steps_from_c requests.now row.now }
 {
-    let asked = asked_by(requests, row.first, row.count);
+    let asked = requests_from(requests, row.first, row.count);
     [
         step_in(asked, 0),
         step_in(asked, 1),
@@ -191,9 +190,9 @@ fn steps_of(requests: &[AgcRequest], row: &AgcCost) -> [Option<Step>; 7]
     ]
 }
 
-/// What a job costs.
+/// The cost of a job.
 fn cost_of(requests: &[AgcRequest], row: &AgcCost) -> Cost
-    ensures { result ≡ cost_told requests.now row.now }
+    ensures { result ≡ cost_from_c requests.now row.now }
 {
     Cost {
         at: address_for(row.at),
@@ -204,8 +203,8 @@ fn cost_of(requests: &[AgcRequest], row: &AgcCost) -> Cost
     }
 }
 
-impl<'a> Timetables for LentTimes<'a> {
-    ghost set_down = { λ t. timetable_told t.lasts t.stolen.now t.costs.now t.events.now
+impl<'a> Timetables for BorrowedTimes<'a> {
+    ghost set_down = { λ t. timetable_from_c t.lasts t.stolen.now t.costs.now t.events.now
         t.requests.now };
 
     fn lasts(&self) -> u32 {
@@ -241,14 +240,14 @@ impl<'a> Timetables for LentTimes<'a> {
     fn requests(&self, event: usize) -> usize {
         match self.events.get(event) {
             None => 0,
-            Some(row) => asked_by(self.requests, row.first, row.count).len(),
+            Some(row) => requests_from(self.requests, row.first, row.count).len(),
         }
     }
 
     fn request(&self, event: usize, index: usize) -> Option<Request> {
         match self.events.get(event) {
             None => None,
-            Some(row) => match asked_by(self.requests, row.first, row.count).get(index) {
+            Some(row) => match requests_from(self.requests, row.first, row.count).get(index) {
                 None => None,
                 Some(numbers) => Some(request_for(numbers)),
             },

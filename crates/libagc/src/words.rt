@@ -1,15 +1,15 @@
 // Arithmetic on words in ones' complement.
 ghost use Rattle.std.specs.Prelude.{◌≡◌};
-ghost use Rattle.libagc.specs.Arithmetic.{sum_told, negative_told, value_told};
+ghost use Rattle.libagc.specs.Arithmetic.{sum_to_c, negative_to_c, value_to_c};
 
 use crate::reply::AgcNumber;
 use agc_image::Fault;
 
-/// The sum of two words: a code, the fifteen bits, and whether it overflows. Source: profile.
+/// The sum of two words: a code, the fifteen bits, and whether it overflows.
 #[repr(C)]
 #[derive(Clone, Copy)]
 pub struct AgcSum {
-    /// 0, or 5 where one of both is no word.
+    /// 0, or 5 if one of both is no word.
     pub code: u32,
     /// The bits of the sum.
     pub bits: u32,
@@ -17,21 +17,21 @@ pub struct AgcSum {
     pub overflow: bool,
 }
 
-/// The value of a word: a code, and the value. Source: profile.
+/// The value of a word: a code, and the value.
 #[repr(C)]
 #[derive(Clone, Copy)]
 pub struct AgcValue {
-    /// 0, or 5 where it is no word.
+    /// 0, or 5 if it is no word.
     pub code: u32,
     /// The value, -16383 to 16383.
     pub value: i32,
 }
 
-/// The sum of two words in ones' complement, and whether it overflows. Code 5 where one of both is
+/// The sum of two words in ones' complement, and whether it overflows. Code 5 if one of both is
 /// above 32767. Source: the listings' words, with end-around carry.
 #[unsafe(no_mangle)]
 pub extern "C" fn agc_add(a: u32, b: u32) -> AgcSum
-    ensures { result ≡ sum_told a b }
+    ensures { result ≡ sum_to_c a b }
 {
     match (agc_image::word(a), agc_image::word(b)) {
         (Some(first), Some(second)) => {
@@ -50,26 +50,26 @@ pub extern "C" fn agc_add(a: u32, b: u32) -> AgcSum
     }
 }
 
-/// The negative of a word: each bit turned. Code 5 where it is above 32767. Source: the listings'
+/// The negative of a word: each bit turned. Code 5 if it is above 32767. Source: the listings'
 /// words.
 #[unsafe(no_mangle)]
 pub extern "C" fn agc_negative(word: u32) -> AgcNumber
-    ensures { result ≡ negative_told word }
+    ensures { result ≡ negative_to_c word }
 {
     match agc_image::word(word) {
         Some(word) => AgcNumber {
             code: 0,
             number: u32::from(word.neg().bits()),
         },
-        None => AgcNumber::refused(Fault::NotAWord),
+        None => AgcNumber::with_fault(Fault::NotAWord),
     }
 }
 
-/// The value of a word, -16383 to 16383; both zeros have 0. Code 5 where it is above 32767. Source:
+/// The value of a word, -16383 to 16383; both zeros have 0. Code 5 if it is above 32767. Source:
 /// the listings' words.
 #[unsafe(no_mangle)]
 pub extern "C" fn agc_value(word: u32) -> AgcValue
-    ensures { result ≡ value_told word }
+    ensures { result ≡ value_to_c word }
 {
     match agc_image::word(word) {
         Some(word) => AgcValue {

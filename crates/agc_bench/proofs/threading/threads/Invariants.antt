@@ -6,11 +6,11 @@ use Rattle.agc_bench.specs.Sharing.{first_calls}
 use Rattle.agc_bench.specs.Threads.{askers_of}
 use Rattle.agc_bench.proofs.threading.threads.Given as goal
 
-abbrev pub ghosts-gathered-N-Names : goal.ghosts-gathered-N-Names
-ghosts-gathered-N-Names g a = record { names = names_of a.outfit.blanks; first = a.outfit.machine }
+abbrev pub ghosts-gather_report-N-Names : goal.ghosts-gather_report-N-Names
+ghosts-gather_report-N-Names g a = record { names = names_of a.outfit.blanks; first = a.outfit.machine }
 
-abbrev pub ghosts-gathered-N-Sharing : goal.ghosts-gathered-N-Sharing
-ghosts-gathered-N-Sharing g a = record {
+abbrev pub ghosts-gather_report-N-Sharing : goal.ghosts-gather_report-N-Sharing
+ghosts-gather_report-N-Sharing g a = record {
   may_share = λ given. nat_eq given (length (askers_of a.bench.now));
   begun = first_calls (answers_to a.outfit.machine a.bench.now.script);
   latch = a.outfit.latch;

@@ -8,4 +8,4 @@ pub returns-in_err-one-clause-refused : goal.returns-in_err-one-clause-refused
 returns-in_err-one-clause-refused g c =
     let p = err_from_is_err_and c.from_residual.result c.from_residual.ensures.1 in
     rw (p.1, p.2) (refused_because _ _ c.in_err-one.field-0.0 (λ never xs h e.
-    refused_here g.X.Spelled.spelling g.X.Spelled.IsLawful c.args.texts.now c.loop-text.text-index c.text-item.result c.loop-text-test.true (λ x q f. never x q (c.text-item.is ∙ f)) xs h e) c.in_err-one.ensures.refused)
+    refused_here g.X.FromText.spelling g.X.FromText.IsLawful c.args.texts.now c.loop-text.text-index c.text-item.result c.loop-text-test.true (λ x q f. never x q (c.text-item.is ∙ f)) xs h e) c.in_err-one.ensures.refused)

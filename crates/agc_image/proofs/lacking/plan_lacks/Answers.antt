@@ -1,10 +1,10 @@
 use Rattle.std.proofs.Common.{sym, ◌∙◌}
 use Rattle.agc_plan.proofs.Quiet.{quiet}
-use Rattle.agc_image.specs.Written.{written_told}
+use Rattle.agc_image.specs.Written.{plan_from_c}
 use Rattle.agc_image.proofs.Finding.{no_fault}
 use Rattle.agc_image.proofs.lacking.plan_lacks.Goals as goal
 
 pub returns-else-all_want-clause-quiet : goal.returns-else-all_want-clause-quiet
 returns-else-all_want-clause-quiet c =
-    let plan = written_told c.args.rows.now c.args.entries.now in
+    let plan = plan_from_c c.args.rows.now c.args.entries.now in
     quiet plan (no_fault plan.rows plan.entries (sym c.task_twice.ensures ∙ c.if-task_twice.false) (sym c.phase_twice.ensures ∙ c.if-phase_twice.false) (sym c.all_want.ensures ∙ c.if-all_want.false))

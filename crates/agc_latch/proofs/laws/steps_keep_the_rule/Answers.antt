@@ -1,5 +1,8 @@
-use Rattle.agc_latch.proofs.Keeps.{post_keeps, take_keeps, split_keeps, join_keeps, takes_in_turn, takes_only_posted, is_bounded}
+use Rattle.agc_latch.proofs.Keeps.{begins_at_zero, post_keeps, take_keeps, split_keeps, join_keeps, takes_in_turn, takes_only_posted, is_bounded}
 use Rattle.agc_latch.proofs.laws.steps_keep_the_rule.Goals as goal
+
+pub returns-clause-new : goal.returns-clause-new
+returns-clause-new c = begins_at_zero
 
 pub returns-clause-post : goal.returns-clause-post
 returns-clause-post c = post_keeps

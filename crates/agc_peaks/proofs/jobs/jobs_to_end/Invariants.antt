@@ -6,7 +6,7 @@ use Rattle.agc_peaks.proofs.jobs.jobs_to_end.Given as goal
 
 abbrev pub invariant-loop-asked : goal.invariant-loop-asked
 invariant-loop-asked l =
-    fold after l.run.machine (to_ask l.run.machine l.run.asks) ≡ fold after l.fn.run.machine (to_ask l.fn.run.machine l.fn.run.asks)
+    fold after l.run.machine (to_ask l.run.machine l.run.pending) ≡ fold after l.fn.run.machine (to_ask l.fn.run.machine l.fn.run.pending)
 
 abbrev pub decreases-loop-asked : goal.decreases-loop-asked
-decreases-loop-asked l = length (to_ask l.run.machine l.run.asks)
+decreases-loop-asked l = length (to_ask l.run.machine l.run.pending)

@@ -1,7 +1,7 @@
 use Rattle.std.proofs.Common.{sym, ◌∙◌, ap, length, arith}
 use Rattle.std.specs.List.{flat_map}
 use Rattle.agc_machine.specs.Machines.{after}
-use Rattle.agc_session.specs.Pieces.{asked_in}
+use Rattle.agc_session.specs.Pieces.{piece_requests}
 use Rattle.agc_session.specs.Steps.{line_written}
 use Rattle.agc_session.proofs.Pieces.{pieces_ask, next_piece}
 use Rattle.agc_session.proofs.Walks.{all_left, left_as, some_asked, walk_stopped, walk_done}
@@ -9,7 +9,7 @@ use Rattle.agc_session.proofs.asking.ask_bench.Goals as goal
 
 pub loop-walk-init : goal.loop-walk-init
 loop-walk-init g c = record {
-  left = left_as (sym (pieces_ask c.args.bench.now) ∙ ap (flat_map asked_in) (sym c.new-walk.ensures.all)) (all_left after line_written _ _ _);
+  left = left_as (sym (pieces_ask c.args.bench.now) ∙ ap (flat_map piece_requests) (sym c.new-walk.ensures.all)) (all_left after line_written _ _ _);
 }
 
 pub loop-walk-smaller : goal.loop-walk-smaller
@@ -30,4 +30,4 @@ returns-in_err-ask_all g c =
 pub returns : goal.returns
 returns g c =
     let is = rw c.loop-walk-test.false at c.advance.ensures in
-    walk_done (left_as (ap (flat_map asked_in) is.0) c.loop-walk.invariant.left)
+    walk_done (left_as (ap (flat_map piece_requests) is.0) c.loop-walk.invariant.left)

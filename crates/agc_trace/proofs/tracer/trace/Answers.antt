@@ -7,5 +7,5 @@ use Rattle.agc_trace.proofs.tracer.trace.Goals as goal
 pub returns : goal.returns
 returns g c =
     subst (λ end. EndsIn end (g.W.Write.contents c.args.writer.now) (g.W.Write.contents c.show.new.writer) c.show.result)
-    (asked_on _ _ (machine_of c.args.subject) (requests_of c.args.subject) c.in_ok-run.ensures.watched (its_requests c.args.subject _ c.in_ok-run.ensures.asks))
+    (asked_on _ _ (machine_of c.args.subject) (requests_of c.args.subject) c.in_ok-run.ensures.watched (its_requests c.args.subject _ c.in_ok-run.ensures.pending))
     c.show.ensures

@@ -9,5 +9,5 @@ pub returns : goal.returns
 returns g c =
     subst (λ end. EndsIn end (g.W.Write.contents c.args.writer.now) (g.W.Write.contents c.show.new.writer) c.show.result)
     (followed _ _ _ script_machine (λ m. c.args.requests.now) c.new-run.ensures.watched c.in_ok-machine.ensures.machine
-    (script_requests c.args.requests.now _ (λ k. ap (all_to_ask k) c.new-run.ensures.asks ∙ c.of_script.ensures k)))
+    (script_requests c.args.requests.now _ (λ k. ap (all_to_ask k) c.new-run.ensures.pending ∙ c.of_script.ensures k)))
     c.show.ensures

@@ -1,10 +1,10 @@
 use Rattle.std.proofs.Common.{ap, sym, ◌∙◌, ℕ, ◌∷◌, []}
-use Rattle.agc_image.specs.declared.asked.AgcRequest.{AgcRequest}
-use Rattle.libagc.specs.Asking.{pulse_told}
+use Rattle.agc_image.specs.declared.requests.AgcRequest.{AgcRequest}
+use Rattle.libagc.specs.Asking.{pulse_to_c}
 use Rattle.libagc.proofs.Pulsing.{first_set}
 use Rattle.libagc.proofs.asking.put_pulse.Goals as goal
 
 pub returns-in-0-clause-list : goal.returns-in-0-clause-list
 returns-in-0-clause-list c =
     first_set c.args.requests.now c.numbers_of.result c.told-requests ∙ ap (λ (r : AgcRequest). r ∷ []) c.numbers_of.ensures
-    ∙ sym (ap (λ (line : ℕ). pulse_told line c.args.key.now c.args.radar.now) c.in-0.is)
+    ∙ sym (ap (λ (line : ℕ). pulse_to_c line c.args.key.now c.args.radar.now) c.in-0.is)

@@ -1,20 +1,20 @@
 use Rattle.std.proofs.Common.{◌≡◌, ℕ, suc, ap, sym, ◌∙◌, ◌+◌, ◌++◌, ◌∷◌, List, take, drop, arith}
 use Rattle.std.proofs.Math.ListN.{get_or}
 use Rattle.std.proofs.Math.Seq.{drop-cons}
-use Rattle.agc_image.specs.declared.asked.AgcRequest.{AgcRequest}
+use Rattle.agc_image.specs.declared.requests.AgcRequest.{AgcRequest}
 use Rattle.agc_image.specs.Lacking.{is_action}
 use Rattle.libagc.specs.Asking.{are_actions}
-use Rattle.libagc.specs.Spelled.{asked}
+use Rattle.libagc.specs.Spelled.{request_with}
 use Rattle.libagc.proofs.Pulsing.{asks, put_on, drop_on, others_too}
 use Rattle.libagc.proofs.asking.put_requests.Goals as goal
 
 pub loop-action-preserved : goal.loop-action-preserved
 loop-action-preserved c =
     let k = c.loop-action.action-index in
-    let action = get_or c.args.actions.now k (asked 0 0 0 0) in
+    let action = get_or c.args.actions.now k (request_with 0 0 0 0) in
     let others = drop (k + 1) c.args.actions.now in
     let before = take c.loop-action.count c.loop-action.requests in
-    let here : drop k c.args.actions.now ≡ action ∷ others = drop-cons c.args.actions.now k (asked 0 0 0 0) c.loop-action-test.true ∙ ap (λ (n : ℕ). action ∷ drop n c.args.actions.now) (let one : suc k ≡ k + 1 = omega arith in one) in
+    let here : drop k c.args.actions.now ≡ action ∷ others = drop-cons c.args.actions.now k (request_with 0 0 0 0) c.loop-action-test.true ∙ ap (λ (n : ℕ). action ∷ drop n c.args.actions.now) (let one : suc k ≡ k + 1 = omega arith in one) in
     record {
       put = ap (λ (these : List AgcRequest). these ++ asks others) c.put_request-count.ensures.list ∙ put_on before action others (asks c.args.actions.now) (ap (λ (rest : List AgcRequest). before ++ asks rest) (sym here) ∙ c.loop-action.invariant.put);
       rest = c.put_request-count.ensures.rest ∙ drop_on c.loop-action.count c.put_request-count.result c.loop-action.requests c.args.requests.now c.put_request-count.ensures.least c.loop-action.invariant.rest;

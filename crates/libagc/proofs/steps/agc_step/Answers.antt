@@ -30,7 +30,7 @@ pub returns-in-None-request_of-clause-code : goal.returns-in-None-request_of-cla
 returns-in-None-request_of-clause-code c =
     let image = image_for _ c.args.sets c.try_open.result c.args.words.now c.in-Some.ensures.value c.in-None-try_open.is c.try_open.ensures.code in
     step_no_request c.refuse-in-None-request_of.result.code c.args.sets c.args.words.now c.args.request.now _ image (sym c.request_of.ensures ∙ c.in-None-request_of.is)
-    (ap (λ (r : AgcStep). r.code) c.refuse-in-None-request_of.ensures.result ∙ ap code_of c.asked_fault.ensures)
+    (ap (λ (r : AgcStep). r.code) c.refuse-in-None-request_of.ensures.result ∙ ap code_of c.request_fault.ensures)
 
 pub returns-in-Some-lacks-clause-code : goal.returns-in-Some-lacks-clause-code
 returns-in-Some-lacks-clause-code c =

@@ -6,7 +6,7 @@ use Rattle.libagc.proofs.steps.agc_step_trusted.Goals as goal
 
 pub returns-in-None-clause-code : goal.returns-in-None-clause-code
 returns-in-None-clause-code c =
-    ap (λ (r : AgcStep). r.code) c.refuse.ensures.result ∙ ap code_of c.asked_fault.ensures
+    ap (λ (r : AgcStep). r.code) c.refuse.ensures.result ∙ ap code_of c.request_fault.ensures
     ∙ sym (asked_lacks c.args.request.now (sym c.request_of.ensures ∙ c.in-None.is))
 
 pub returns-in-Some-clause-code : goal.returns-in-Some-clause-code

@@ -1,5 +1,5 @@
 use Rattle.std.proofs.Common.{sym, ◌∙◌}
-use Rattle.agc_image.specs.Written.{written_told}
+use Rattle.agc_image.specs.Written.{plan_from_c}
 use Rattle.agc_wait.specs.Table.{waits_of}
 use Rattle.agc_wait.proofs.Dues.{is_due-none}
 use Rattle.agc_machine.proofs.Stepping.{tables_of, tidy_of, ended_by}
@@ -17,7 +17,7 @@ finish_words-requires c = record {
 pub returns-then-begins : goal.returns-then-begins
 returns-then-begins c = record {
   steps = λ asked old did.
-      ended_by (written_told c.args.plan.now.rows.now c.args.plan.now.entries.now) asked old c.args.image.now c.finish_words.new.e c.args.reply.now did c.finish_words.ensures.lawful c.finish_words.ensures.tidy c.finish_words.ensures.same_length c.finish_words.ensures.ends;
+      ended_by (plan_from_c c.args.plan.now.rows.now c.args.plan.now.entries.now) asked old c.args.image.now c.finish_words.new.e c.args.reply.now did c.finish_words.ensures.lawful c.finish_words.ensures.tidy c.finish_words.ensures.same_length c.finish_words.ensures.ends;
   written = c.write_back.ensures;
 }
 

@@ -2,7 +2,7 @@ use Rattle.std.proofs.Common.{List, ℕ, ap, length, subst, ◌∙◌, sym}
 use Rattle.agc_machine.proofs.Frames.{none_counted}
 use Rattle.agc_machine.proofs.Stepping.{sound_of, lawful_by, tidy_of, words_stand, acts_by}
 use Rattle.agc_machine.specs.Stands.{Acts, FiresIn, RaisesIn}
-use Rattle.libagc.specs.Stepping.{step_told, plan_for}
+use Rattle.libagc.specs.Stepping.{step_to_c, plan_for}
 use Rattle.libagc.proofs.Stepping.{stepped, acted, rewritten, as_written}
 use Rattle.libagc.proofs.steps.serve.Goals as goal
 
@@ -37,9 +37,9 @@ returns-clause-served c = λ sets valid opened.
       reply = did.result.0;
       fired = did.new.fired;
       action = did.result.1;
-      told = c.of.ensures.reply
-          ∙ ap (λ (n : ℕ). step_told did.result.0 n c.action_told.result) c.len.ensures.value
-          ∙ ap (λ (n : ℕ). step_told did.result.0 (length did.new.fired) n) c.action_told.ensures;
+      reply_to_c = c.of.ensures.reply
+          ∙ ap (λ (n : ℕ). step_to_c did.result.0 n c.action_to_c.result) c.len.ensures.value
+          ∙ ap (λ (n : ℕ). step_to_c did.result.0 (length did.new.fired) n) c.action_to_c.ensures;
       handed_out = c.hand_out.ensures;
       fires = subst (λ (w : List ℕ). FiresIn (plan_for rows entries w) c.args.request.now w did.new.fired) opened.image fires;
       raises = subst (λ (w : List ℕ). RaisesIn (plan_for rows entries w) c.args.request.now w did.result.1) opened.image raises;

@@ -1,4 +1,4 @@
-use Rattle.std.proofs.Common.{◌≡◌, ℕ, ap, ◌∙◌}
+use Rattle.std.proofs.Common.{ℕ, ap, ◌∙◌}
 use Rattle.agc_word.specs.Profiles.{count_of}
 use Rattle.agc_plan.specs.Plans.{planned_with}
 use Rattle.agc_phase.specs.Image.{base_of}

@@ -1,0 +1,196 @@
+// A plan in memory of a caller's own.
+ghost use Rattle.std.specs.Prelude.{◌≡◌, ◌<◌, [], IfSome, IfNone};
+ghost use Rattle.agc_image.specs.Written.{action_from_c, count_in, actions_from_c, rows_from_c};
+ghost use Rattle.agc_image.specs.Written.{job_told};
+ghost use Rattle.agc_image.specs.Written.{listed_from_c, entries_from_c, plan_from_c};
+ghost use Rattle.agc_plan.specs.Plans.{actions_in, entry_at};
+
+use crate::numbers::address;
+use crate::requests::{AgcRequest, listing_of, start_of};
+use agc_plan::{Action, Actions, Delay, Group, JobStart, Phase, PhaseEntry, Plans, Task};
+
+/// A task's row: four actions, in order, that are done when it fires.
+#[repr(C)]
+#[derive(Clone, Copy)]
+pub struct AgcRow {
+    /// Where the task begins.
+    pub at: u32,
+    /// The word for its bank.
+    pub bank: u32,
+    /// The first action.
+    pub first: AgcRequest,
+    /// The second.
+    pub second: AgcRequest,
+    /// The third.
+    pub third: AgcRequest,
+    /// The fourth.
+    pub fourth: AgcRequest,
+}
+
+/// A restart entry, which begins again while a group is in a phase: a job, a task, both or neither.
+#[repr(C)]
+#[derive(Clone, Copy)]
+pub struct AgcPhaseEntry {
+    /// The group, 1 to 6.
+    pub group: u32,
+    /// The phase, 1 to 127.
+    pub phase: u32,
+    /// 0 no job, 1 NOVAC, 2 FINDVAC.
+    pub job: u32,
+    /// The job's priority.
+    pub priority: u32,
+    /// Where the job begins.
+    pub job_at: u32,
+    /// The word for its bank.
+    pub job_bank: u32,
+    /// The task's delay in centiseconds; 0 if there is no task.
+    pub delay: u32,
+    /// Where the task begins.
+    pub task_at: u32,
+    /// The word for its bank.
+    pub task_bank: u32,
+}
+
+/// A plan whose rows and entries lie in memory of a caller's own: a number out of its range does
+/// nothing, and of two rows or entries the first counts.
+#[derive(Clone, Copy)]
+pub struct BorrowedPlan<'a> {
+    /// The rows of tasks.
+    pub rows: &'a [AgcRow],
+    /// The restart entries.
+    pub entries: &'a [AgcPhaseEntry],
+}
+
+/// An action of these numbers.
+fn action_of(a: &AgcRequest) -> Action
+    ensures { result ≡ action_from_c a.now }
+{
+    match a.kind {
+        1 => match start_of(a.first, a.second, a.third) {
+            Some(start) => Action::Novac(start.0, start.1),
+            None => Action::Nothing,
+        },
+        2 => match start_of(a.first, a.second, a.third) {
+            Some(start) => Action::Findvac(start.0, start.1),
+            None => Action::Nothing,
+        },
+        5 => match address(a.first) {
+            Some(at) => Action::Rouse(at),
+            None => Action::Nothing,
+        },
+        9 => match listing_of(a.first, a.second, a.third) {
+            Some(listing) => Action::List(listing.0, listing.1),
+            None => Action::Nothing,
+        },
+        _ => Action::Nothing,
+    }
+}
+
+/// How many actions a row has, up to the last of a kind other than 0.
+fn count_in(row: &AgcRow) -> usize
+    ensures { result ≡ count_in row.now }
+{
+    if row.fourth.kind != 0 {
+        4
+    } else if row.third.kind != 0 {
+        3
+    } else if row.second.kind != 0 {
+        2
+    } else if row.first.kind != 0 {
+        1
+    } else {
+        0
+    }
+}
+
+/// Adds the actions of a row to room that has none yet.
+fn put_actions(row: &AgcRow, room: &mut Actions)
+    requires { room.old ≡ [] }
+    ensures { room.new ≡ actions_from_c row.now }
+{
+    let count = count_in(row);
+    if count >= 1 {
+        room.push(action_of(&row.first));
+    }
+    if count >= 2 {
+        room.push(action_of(&row.second));
+    }
+    if count >= 3 {
+        room.push(action_of(&row.third));
+    }
+    if count >= 4 {
+        room.push(action_of(&row.fourth));
+    }
+}
+
+/// The job of an entry.
+pub(crate) fn job_of(e: &AgcPhaseEntry) -> Option<JobStart>
+    ensures { result ≡ job_told e.now }
+{
+    match e.job {
+        1 => match start_of(e.priority, e.job_at, e.job_bank) {
+            Some(start) => Some(JobStart::Novac(start.0, start.1)),
+            None => None,
+        },
+        2 => match start_of(e.priority, e.job_at, e.job_bank) {
+            Some(start) => Some(JobStart::Findvac(start.0, start.1)),
+            None => None,
+        },
+        _ => None,
+    }
+}
+
+/// The task of an entry.
+pub(crate) fn listed_of(e: &AgcPhaseEntry) -> Option<(Delay, Task)>
+    ensures { result ≡ listed_from_c e.now }
+{
+    listing_of(e.delay, e.task_at, e.task_bank)
+}
+
+/// The first row of a task.
+fn row_of<'a>(rows: &'a [AgcRow], task: &Task) -> Option<&'a AgcRow>
+    ensures row { IfSome result
+        (λ row. actions_from_c row.now ≡ actions_in (rows_from_c rows.now) task.now) }
+    ensures none { IfNone result (actions_in (rows_from_c rows.now) task.now ≡ []) }
+{
+    let at = u32::from(task.at.get());
+    let bank = u32::from(task.bank.bits());
+    for row in rows {
+        if row.at == at && row.bank == bank {
+            return Some(row);
+        }
+    }
+    None
+}
+
+/// The first entry of a group's phase.
+fn entry_at(entries: &[AgcPhaseEntry], group: Group, phase: Phase) -> Option<PhaseEntry>
+    requires { 0 < phase }
+    ensures { result ≡ entry_at (entries_from_c entries.now) group phase }
+{
+    let of_group = u32::from(group.get());
+    let of_phase = u32::from(phase.get());
+    for entry in entries {
+        if entry.group == of_group && entry.phase == of_phase {
+            return PhaseEntry::new(group, phase, job_of(entry), listed_of(entry));
+        }
+    }
+    None
+}
+
+impl<'a> Plans for BorrowedPlan<'a> {
+    ghost written = { λ p. plan_from_c p.rows.now p.entries.now };
+
+    fn actions<'b>(&'b self, task: &Task, room: &'b mut Actions) -> &'b [Action] {
+        *room = Actions::new();
+        match row_of(self.rows, task) {
+            Some(row) => put_actions(row, room),
+            None => {}
+        }
+        room.as_slice()
+    }
+
+    fn entry(&self, group: Group, phase: Phase) -> Option<PhaseEntry> {
+        entry_at(self.entries, group, phase)
+    }
+}

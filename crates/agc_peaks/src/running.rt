@@ -1,0 +1,101 @@
+//! Runs with statistics of how full the tables are, some of which write their requests.
+ghost use Rattle.std.specs.Prelude.{◌≡◌, IfOk};
+ghost use Rattle.std.specs.List.{fold};
+ghost use Rattle.agc_machine.specs.Machines.{after};
+ghost use Rattle.agc_run.specs.Runs.{to_ask};
+
+use crate::era::{Era, Style};
+use crate::occupancy::occupancy_of;
+use crate::run_statistics::RunStatistics;
+use agc_document::put_script_line;
+use agc_plan::Request;
+use agc_run::{Run, Subject};
+use agc_session::RunFault;
+use agc_text::{Buffer, Output, TextWriter};
+use std::alloc::Global;
+use std::io;
+use std::io::Write;
+
+/// The line that is written for a request.
+#[derive(Clone, Copy)]
+pub(crate) enum RunReport {
+    Nothing,
+    /// The row of the era that ended with it.
+    Eras(Style),
+    /// Itself, as a line of a script.
+    Requests,
+}
+
+impl RunReport {
+    /// Adds the row of an era that ended with a request, if eras are written.
+    fn put(self, ended: Option<Era>, buffer: &mut Buffer) {
+        if let (RunReport::Eras(style), Some(era)) = (self, ended) {
+            era.put(style, buffer);
+        }
+    }
+
+    /// Writes a draft, or a request, if requests are written.
+    fn write<W: Write>(
+        self,
+        request: &Request,
+        buffer: &mut Buffer,
+        writer: &mut W,
+    ) -> Result<(), Output> {
+        match self {
+            RunReport::Requests => {
+                let mut pen = TextWriter::new(writer);
+                put_script_line(&mut pen, request);
+                pen.end()
+            }
+            RunReport::Nothing | RunReport::Eras(_) => buffer.send(writer),
+        }
+    }
+}
+
+/// Makes all requests of a run, in order, and no others, and counts their outcomes. It first writes
+/// the draft, and then the lines of requests. Returns the statistics.
+pub(crate) fn run_to_end<W: Write>(
+    run: &mut Run<'_>,
+    report: RunReport,
+    buffer: &mut Buffer,
+    writer: &mut W,
+) -> Result<RunStatistics, Output>
+    ensures { IfOk result (λ _. run.new.machine
+        ≡ fold after run.old.machine (to_ask run.old.machine run.old.pending)) }
+{
+    let mut statistics = RunStatistics::new(run.machine());
+    while let Some(asked) = run.next() {
+        statistics.pass(run.clock());
+        let answer = run.ask(&asked);
+        let occupancy = occupancy_of(run.words_left(&answer));
+        let ended = statistics.note_answer(run.machine(), &asked.request, occupancy, &answer);
+        statistics.keep(run.clock());
+        report.put(ended, buffer);
+        report.write(&asked.request, buffer, writer)?;
+    }
+    Ok(statistics)
+}
+
+/// The statistics of a run to its end. Nothing is written for its requests.
+pub(crate) fn statistics_without_report(
+    alloc: Global,
+    run: &mut Run<'_>,
+) -> Result<RunStatistics, RunFault> {
+    let mut buffer = Buffer::new(alloc)?;
+    let statistics = run_to_end(run, RunReport::Nothing, &mut buffer, &mut io::sink())?;
+    Ok(statistics)
+}
+
+/// The statistics of the run of a bench or a scenario.
+pub(crate) fn statistics_of(
+    alloc: Global,
+    subject: Subject<'_>,
+) -> Result<RunStatistics, RunFault> {
+    let mut run = subject.run(alloc)?;
+    statistics_without_report(alloc, &mut run)
+}
+
+/// Writes a draft.
+pub(crate) fn send_buffer<W: Write>(buffer: &mut Buffer, writer: &mut W) -> Result<(), RunFault> {
+    Ok(buffer.send(writer)?)
+}

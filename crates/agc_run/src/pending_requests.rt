@@ -1,0 +1,185 @@
+// The pending requests of a run.
+ghost use Rattle.std.specs.Prelude.{◌≡◌, [], option_map};
+ghost use Rattle.agc_exec.specs.Image.{IsLawfulWords, jobs_in};
+ghost use Rattle.agc_machine.specs.Machines.{Machined, plain_of};
+ghost use Rattle.agc_clock.specs.Runs.{begins_with};
+ghost use Rattle.agc_run.specs.Going.{alarm_with};
+ghost use Rattle.agc_run.specs.Runs.{Pulls, alarms_with, all_to_ask, bench_asks, clock_after};
+ghost use Rattle.agc_run.specs.Runs.{clock_asks, rest, script_asks};
+
+use crate::requests::Requests;
+use agc_clock::{Alarms, Clock};
+use agc_document::Bench;
+use agc_machine::Refusal;
+use agc_plan::{Alarm, Reply, Request};
+use agc_scenario::{CurrentTimetable, Timing};
+use agc_word::Erasable;
+use std::marker::Model;
+
+/// The source of a request: the script, a worker or a pulse of a bench, or a scenario's clock or
+/// one of its events.
+#[derive(Clone, Copy, PartialEq, Eq)]
+pub enum Source {
+    Bench(agc_session::Source),
+    Time(agc_clock::Source),
+}
+
+/// The request that comes next, and its source.
+#[derive(Clone, Copy)]
+pub struct Call {
+    pub source: Source,
+    pub request: Request,
+}
+
+/// The pending requests of a run: those of a script or a bench, and then those of a clock, if time
+/// passes.
+#[derive(Drop)]
+pub struct PendingRequests<'a> {
+    listed: Requests<'a>,
+    timing: Option<&'a Timing>,
+    alarms: Alarms,
+    clock: Clock,
+}
+
+impl<'a> Model for PendingRequests<'a> {
+    ghost use Rattle.std.specs.Option.{option_map};
+    ghost use Rattle.agc_run.specs.Runs.{Pending};
+
+    ghost Value = { Pending };
+
+    ghost view = { λ a. record {
+      listed = a.listed;
+      timing = option_map (λ t. t.now) a.timing;
+      alarms = a.alarms;
+      clock = a.clock;
+    } };
+}
+
+/// Whether an era began with an answer.
+fn begins_with(answer: &Result<Reply, Refusal>) -> bool
+    ensures { result ≡ begins_with answer.now }
+{
+    match answer {
+        Ok(reply) => reply.begins(),
+        Err(_refusal) => false,
+    }
+}
+
+/// The alarm of an answer, if it has one.
+fn alarm_with(answer: &Result<Reply, Refusal>) -> Option<Alarm>
+    ensures { result ≡ alarm_with answer.now }
+{
+    match answer {
+        Ok(reply) => reply.alarm(),
+        Err(_refusal) => None,
+    }
+}
+
+impl<'a> PendingRequests<'a> {
+    /// The requests of a script, in order.
+    pub fn of_script(script: &'a [Request]) -> PendingRequests<'a>
+        ensures { (m : Machined) → all_to_ask m result ≡ script_asks script.now }
+    {
+        PendingRequests {
+            listed: Requests::of_script(script),
+            timing: None,
+            alarms: Alarms::none(),
+            clock: Clock::new(0),
+        }
+    }
+
+    /// The requests of a bench, in the order of [`serial`](agc_session::serial).
+    pub fn of_bench(bench: &'a Bench) -> PendingRequests<'a>
+        ensures { (m : Machined) → all_to_ask m result ≡ bench_asks bench.now }
+    {
+        PendingRequests {
+            listed: Requests::of_bench(bench),
+            timing: None,
+            alarms: Alarms::none(),
+            clock: Clock::new(0),
+        }
+    }
+
+    /// The requests of a scenario's clock to a machine, in order.
+    pub fn of_scenario(timing: &'a Timing) -> PendingRequests<'a>
+        ensures { (m : Machined) → all_to_ask m result ≡ clock_asks timing.now m }
+    {
+        PendingRequests {
+            listed: Requests::of_script(&[]),
+            timing: Some(timing),
+            alarms: Alarms::none(),
+            clock: Clock::new(timing.seed()),
+        }
+    }
+
+    /// The clock as it is, if time passes by itself.
+    pub(crate) fn clock(&self) -> Option<&Clock>
+        ensures { option_map (λ clock. clock.now) result
+            ≡ option_map (λ _. self.now.clock) self.now.timing }
+    {
+        match self.timing {
+            None => None,
+            Some(_timing) => Some(&self.clock),
+        }
+    }
+
+    /// The next request and its source, given the machine's words; the machine must then be asked
+    /// for it. None once all have been made.
+    pub(crate) fn next(&mut self, words: &Erasable) -> Option<Call>
+        requires { IsLawfulWords words.now }
+        ensures { (m : Machined) → jobs_in words.now ≡ (plain_of m).work.jobs
+            → Pulls m self.old result self.new }
+    {
+        match self.listed.next() {
+            Some((source, request)) => {
+                return Some(Call {
+                    source: Source::Bench(source),
+                    request,
+                });
+            }
+            None => return self.next_in_time(words),
+        }
+    }
+
+    /// The next request of the clock.
+    fn next_in_time(&mut self, words: &Erasable) -> Option<Call>
+        requires over { rest self.old.listed ≡ [] }
+        requires lawful { IsLawfulWords words.now }
+        ensures { (m : Machined) → jobs_in words.now ≡ (plain_of m).work.jobs
+            → Pulls m self.old result self.new }
+    {
+        let timing = match self.timing {
+            None => return None,
+            Some(timing) => timing,
+        };
+        let table = CurrentTimetable {
+            timing,
+            alarms: self.alarms,
+        };
+        match self.clock.next(words, &table) {
+            None => return None,
+            Some(asked) => {
+                return Some(Call {
+                    source: Source::Time(asked.source),
+                    request: asked.request,
+                });
+            }
+        }
+    }
+
+    /// Takes the outcome of the last request: the machine's words after it, and the answer.
+    pub(crate) fn served(&mut self, asked: &Call, words: &Erasable, answer: &Result<Reply, Refusal>)
+        requires { IsLawfulWords words.now }
+        ensures { self.new ≡ record self.old {
+          alarms = alarms_with asked.now.source (alarm_with answer.now) self.old.clock.time
+              self.old.alarms;
+          clock = clock_after asked.now.source (begins_with answer.now) (jobs_in words.now)
+              self.old.clock;
+        } }
+    {
+        if let Source::Time(_source) = asked.source {
+            self.alarms.came(alarm_with(answer), self.clock.time());
+            self.clock.served(words, begins_with(answer));
+        }
+    }
+}

@@ -1,0 +1,248 @@
+// A run's trace, row by row.
+use crate::alarms::put_account;
+use crate::brief::{Quiet, quiet_of};
+use crate::chart::Chart;
+use crate::columns::Columns;
+use crate::ends::{RefusalCounts, power_reply, put_idle, put_power, put_refused};
+use crate::page::Page;
+use crate::{csv, json};
+use agc_clock::Clock;
+use agc_document::Bench;
+use agc_machine::Refusal;
+use agc_plan::{Reply, Request};
+use agc_run::Source;
+use agc_scene::{Event, ObservedMachine, Scene};
+use agc_text::Field::{Number, Text};
+use agc_text::Output;
+use agc_word::Word;
+use std::alloc::{AllocError, Global};
+use std::io::Write;
+
+/// The form of a trace.
+#[derive(Clone, Copy, PartialEq, Eq)]
+pub enum TraceFormat {
+    /// A line of columns for each request, and accounts of alarms.
+    Lines,
+    /// A row of comma-separated values for each request.
+    Csv,
+    /// An object of JSON for each request, in a line each.
+    Json,
+    /// One object of JSON, whose events are a chart.
+    Chart,
+}
+
+/// The form of a trace, and the requests that it shows: those that meet all of these conditions.
+#[derive(Clone, Copy)]
+pub struct TraceOptions {
+    pub form: TraceFormat,
+    /// Only those that raised an alarm.
+    pub alarms: bool,
+    /// Only those from this number on.
+    pub from: Option<u64>,
+    /// Only those up to this number.
+    pub to: Option<u64>,
+    /// Quiet requests, after which only the time has changed, are counted together if they follow
+    /// each other. In forms without lines they are left out.
+    pub brief: bool,
+}
+
+impl TraceOptions {
+    /// Whether the request of this number has a row, given whether it raised an alarm.
+    pub fn tells(&self, number: u64, is_alarmed: bool) -> bool {
+        (is_alarmed || !self.alarms)
+            && self.from.unwrap_or(0) <= number
+            && number <= self.to.unwrap_or(u64::MAX)
+    }
+}
+
+/// Quiet requests in a row that have not been written yet.
+#[derive(Clone, Copy)]
+struct QuietRun {
+    quiet: Quiet,
+    count: u64,
+}
+
+/// The rows of a run: which requests have one; the page for them, and the chart; the scene before
+/// the next request, if the trace is brief; the quiet requests that are not written yet; and how
+/// many were refused.
+#[derive(Drop)]
+pub struct Rows {
+    choice: TraceOptions,
+    page: Page,
+    chart: Chart,
+    before: Option<Scene>,
+    left: Option<QuietRun>,
+    refused: RefusalCounts,
+}
+
+/// The number of requests that were quiet in this way, with one more.
+fn quiet_count(left: Option<QuietRun>, quiet: Quiet) -> u64 {
+    match left {
+        Some(left) if left.quiet == quiet => left.count.saturating_add(1),
+        _ => 1,
+    }
+}
+
+impl Rows {
+    /// The rows of a run, before the first.
+    ///
+    /// # Errors
+    ///
+    /// If memory runs out.
+    pub fn new(alloc: Global, choice: TraceOptions, columns: Columns) -> Result<Rows, AllocError> {
+        Ok(Rows {
+            choice,
+            page: Page::new(alloc, columns)?,
+            chart: Chart::new(),
+            before: None,
+            left: None,
+            refused: RefusalCounts::default(),
+        })
+    }
+
+    /// Adds the number of quiet requests since the last row, if there are any.
+    fn put_left(&mut self) {
+        match self.left {
+            Some(QuietRun { quiet, count }) if self.choice.form == TraceFormat::Lines => {
+                let told = [Text(quiet.words()), Number(count)];
+                self.page.buffer.put("        {} x {}\n", &told);
+            }
+            _ => {}
+        }
+        self.left = None;
+    }
+
+    /// Counts one more quiet request, and first writes those that were quiet in another way.
+    fn put_quiet(&mut self, quiet: Quiet) {
+        let count = quiet_count(self.left, quiet);
+        if count == 1 {
+            self.put_left();
+        }
+        self.left = Some(QuietRun { quiet, count });
+    }
+
+    /// Counts a refused request.
+    fn count_refused(&mut self, answer: &Result<Reply, Refusal>) {
+        let RefusalCounts { log_full, spent } = self.refused;
+        match answer {
+            Ok(_reply) => {}
+            Err(Refusal::Spent) => self.refused.spent = spent.saturating_add(1),
+            Err(Refusal::LogFull) => self.refused.log_full = log_full.saturating_add(1),
+        }
+    }
+
+    /// Keeps the scene before the next request, if the trace is brief.
+    fn keep_scene(&mut self, watched: &ObservedMachine) {
+        if self.choice.brief {
+            self.before = Some(watched.scene());
+        }
+    }
+
+    /// Adds the heading.
+    fn put_heading(&mut self, scene: &Scene) {
+        match self.choice.form {
+            TraceFormat::Lines => self.page.put_heading(),
+            TraceFormat::Csv => self.page.buffer.text(csv::NAMES),
+            TraceFormat::Json => {}
+            TraceFormat::Chart => {
+                let is_whole = self.choice.from.is_none();
+                let first = if is_whole { Some(scene) } else { None };
+                self.chart.begin(&mut self.page, first);
+            }
+        }
+    }
+
+    /// Adds the outcome of power-up with these phase words.
+    fn put_power(&mut self, words: &[Word; 12], scene: &Scene) {
+        match self.choice.form {
+            TraceFormat::Lines => put_power(&mut self.page, words, scene),
+            TraceFormat::Csv => csv::put_power(&mut self.page, power_reply(words), scene),
+            TraceFormat::Json => json::put_power(&mut self.page, power_reply(words), scene),
+            TraceFormat::Chart => {}
+        }
+    }
+
+    /// Adds the heading, and the outcome of power-up, if a bench has phase words.
+    pub fn begin(&mut self, watched: &ObservedMachine, bench: Option<&Bench>) {
+        self.keep_scene(watched);
+        let scene = watched.scene();
+        self.put_heading(&scene);
+        if let Some(words) = bench.and_then(Bench::power) {
+            self.put_power(&words, &scene);
+        }
+    }
+
+    /// Notes the clock's place after a request.
+    pub(crate) fn pass(&mut self, request: &Request, clock: Option<&Clock>) {
+        if let Some(clock) = clock {
+            self.chart.pass(request, clock);
+        }
+    }
+
+    /// The way in which an event is quiet; None if the trace isn't brief.
+    fn quiet(&self, event: &Event) -> Option<Quiet> {
+        match &self.before {
+            None => None,
+            Some(before) => quiet_of(before, event),
+        }
+    }
+
+    /// Adds the row of an event, or what a chart shows of it.
+    fn put_row_of(&mut self, watched: &ObservedMachine, source: Source, event: &Event) {
+        match self.choice.form {
+            TraceFormat::Lines => {
+                self.page.put_event(source, event);
+                put_account(&mut self.page, watched.machine().plan(), event);
+            }
+            TraceFormat::Csv => csv::put_event(&mut self.page, source, event),
+            TraceFormat::Json => json::put_event(&mut self.page, source, event),
+            TraceFormat::Chart => self.chart.tell(&mut self.page, source, event),
+        }
+    }
+
+    /// Adds the row of an event and the account of its alarm, or counts it.
+    fn put_event(&mut self, watched: &ObservedMachine, source: Source, event: &Event) {
+        match self.quiet(event) {
+            Some(quiet) => self.put_quiet(quiet),
+            None => {
+                self.put_left();
+                self.put_row_of(watched, source, event);
+            }
+        }
+    }
+
+    /// Adds the row of a machine's last event, with its source and the account of its alarm, if it
+    /// is chosen.
+    pub fn add(&mut self, watched: &ObservedMachine, source: Source, event: &Event) {
+        self.count_refused(&event.answer);
+        if self.choice.tells(event.number, event.alarm().is_some()) {
+            self.put_event(watched, source, event);
+        }
+        self.keep_scene(watched);
+    }
+
+    /// Writes all that was added.
+    ///
+    /// # Errors
+    ///
+    /// If a write fails, or there was no memory for a long row.
+    pub fn send<W: Write>(&mut self, writer: &mut W) -> Result<(), Output> {
+        self.page.send(writer)
+    }
+
+    /// Adds the lines after the last request of a bench or a script: how many requests were
+    /// refused, and the devices whose pulses make no requests.
+    pub fn end(&mut self, bench: Option<&Bench>) {
+        self.put_left();
+        match self.choice.form {
+            TraceFormat::Lines => {
+                put_refused(&mut self.page.buffer, self.refused, bench);
+                if let Some(bench) = bench {
+                    put_idle(&mut self.page.buffer, bench);
+                }
+            }
+            TraceFormat::Csv | TraceFormat::Json => {}
+            TraceFormat::Chart => self.chart.end(&mut self.page),
+        }
+    }
+}

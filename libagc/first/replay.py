@@ -1,0 +1,12 @@
+import sys
+import tomllib
+
+from agc import Clock, Machine
+
+scenario = tomllib.load(sys.stdin.buffer)
+machine = Machine(sets=scenario.get("sets"), plan=scenario, power=scenario.get("power"))
+clock = Clock(scenario)
+for asked, step in machine.run(clock, clock.lasts):
+    if step.alarm:
+        print(f"{clock.time / 100:.2f} s, request {machine.totals.served}: alarm {step.alarm:o}")
+print(f"{clock.time / 100:.2f} s, request {machine.totals.served}: the end")

@@ -1,0 +1,183 @@
+// What the drawing module makes of runs, each worked out by hand, that no label meets another one or leaves its picture, and
+// that the pictures in examples/ are those of their documents.
+import assert from "node:assert/strict";
+import { readFileSync, readdirSync } from "node:fs";
+import { test } from "node:test";
+import { Clock, start } from "../../libagc/js/machine.js";
+import { Names } from "../../web/account.js";
+import { readBench, requestsOf } from "../../web/bench.js";
+import { Colours } from "../../web/colours.js";
+import { hitAt, pictureOf, xOfRow } from "../../web/drawing.js";
+import { Scale } from "../../web/drawing-scale.js";
+import { svgOf } from "../../web/drawing-svg.js";
+import { textWidth } from "../../web/drawing-text.js";
+import { budgetOf, workOf } from "../../web/drawing-work.js";
+import { drawn, moduleBytes } from "../../web/picture.mjs";
+import { Run } from "../../web/run.js";
+import { faultsOf } from "../../tools/browsing/marks.mjs";
+
+await start(await moduleBytes());
+
+const TOP = new URL("../../", import.meta.url);
+
+/** @param {string} what @param {unknown} found @param {unknown} wanted */
+function expect(what, found, wanted) {
+  assert.equal(JSON.stringify(found), JSON.stringify(wanted), `${what}: ${JSON.stringify(found)}, and not ${JSON.stringify(wanted)}`);
+}
+
+/** A run of a document, to the end of its time. @param {string} text */
+function runOf(text) {
+  const bench = readBench(text);
+  const run = new Run(bench);
+  for (const [line, who] of requestsOf(bench)) run.ask(line, who);
+  if (bench.seconds !== undefined) {
+    const { seconds, seed, steal, job, event } = bench;
+    run.head.clock = new Clock({ seconds, seed, steal, job, event });
+    run.askByClock(1_000_000, (it) => (it === null ? "the clock" : `event ${bench.event[it].name ?? it + 1}`));
+  }
+  return run;
+}
+
+/** @param {string[]} lines @param {string} [more] */
+function script(lines, more = "") {
+  return runOf(`${more}script = ${JSON.stringify(lines)}\n`);
+}
+
+const WORK = 'seconds = 2\nsteal = 50\n[[job]]\nname = "WORK"\nat = "04000"\ncost = 10\n'
+  + '[[event]]\nname = "begin"\nat = 0\ndo = "novac 20 04000 00005"\n';
+
+/** Half of each centisecond is stolen, so 10 centiseconds take 20; the first of them passes with the second tick. */
+test("work is counted", () => {
+  const run = runOf(WORK);
+  const work = workOf(run, run.count);
+  const at = [0, 1, 2, 11, 20, 21].map((tick) => work?.waiting[run.rowAtTime(tick, run.count)]);
+  expect("work that waits", at, [0, 1000, 950, 500, 50, 0]);
+  expect("the most, and no table was full", [work?.most, work?.full], [1000, Infinity]);
+  expect("no costs, no work", workOf(script(["tick"]), 1), null);
+});
+
+/** A job that needs half a second and has three tenths: a mark where it is asked for, a red one at its deadline, and red from there on. */
+test("deadlines are marked", () => {
+  for (const [deadline, fill] of /** @type {[number, string][]} */ ([[30, "alarm"], [60, "ink"]])) {
+    const run = runOf(`seconds = 1\n[[job]]\nat = "04000"\ncost = 50\ndeadline = ${deadline}\n[[event]]\nat = 10\ndo = "novac 20 04000 00005"\n`);
+    const picture = pictureOf(run, run.count, { width: 700 });
+    const placeOf = (/** @type {number} */ ticks) => picture.plot.left + (ticks / 100) * (picture.plot.right - picture.plot.left);
+    const near = (/** @type {number} */ x, /** @type {number} */ ticks) => Math.abs(x - placeOf(ticks)) < 8;
+    const red = picture.marks.filter((it) => it.kind === "rect" && it.fill === "alarm");
+    expect(`red after ${deadline}`, red.map((it) => it.kind === "rect" && near(it.x, 40) && near(it.x + it.width, 60)), fill === "alarm" ? [true] : []);
+    const marks = picture.marks.flatMap((it) => (it.kind === "path" && it.points.length === 4 && it.stroke === undefined ? [it] : []));
+    expect(`marks of ${deadline}`, marks.map((it) => [it.fill, near(it.points[1][0], it.fill === "alarm" ? 40 : it === marks[0] ? 10 : 70)]), [["ink", true], [fill, true]]);
+  }
+});
+
+/** Seven jobs of 10 centiseconds: as the seventh comes 70 wait; the eighth finds none, and the restart sweeps them. */
+test("alarms sweep work", () => {
+  const run = runOf(WORK.replace('do = "novac', `do = [${'"novac 20 04000 00005", '.repeat(7)}"novac`).replace('00005"\n', '00005"]\n'));
+  const work = workOf(run, run.count);
+  const [alarm] = run.alarms;
+  expect("the alarm's row", alarm, 8);
+  expect("work before it, swept, and after it", [work?.waiting[alarm - 1], work?.swept.get(alarm), work?.waiting[alarm]], [7000, 7000, 0]);
+  expect("a table is full from here on", work?.full, 7000);
+});
+
+/** 170 of 200 are 85 %, 12 of 100 are 12 %, and 15 % are stolen. After the alarm at 38.01 s no display is asked for. */
+test("budgets are added up", () => {
+  const run = runOf(readFileSync(new URL("examples/landing.toml", TOP), "utf8"));
+  const shares = (/** @type {number} */ from, /** @type {number} */ to) => {
+    const found = budgetOf(run, run.count, { from, to });
+    return [found?.jobs.map((it) => it.share), found?.stolen, found?.total];
+  };
+  expect("from 10 to 20 s", shares(1000, 2000), [[85, 12], 15, 112]);
+  expect("a part of a period", shares(1010, 1040), [[85, 12], 15, 112]);
+  expect("after the alarm", shares(20_000, 30_000), [[85], 15, 100]);
+  expect("stolen in half of the time", budgetOf(runOf(WORK.replace("steal = 50", "steal = [{ from = 0, to = 100, percent = 50 }]")), 200, { from: 0, to: 200 })?.stolen, 25);
+});
+
+/** By requests each has a column, and one more what its restart swept. */
+test("requests have columns", () => {
+  const run = script(["novac 20 04000 00005", "restart", "novac 20 04100 00005"]);
+  const scale = new Scale(run, 3);
+  expect("places", [0, 1, 2, 3].map((row) => scale.placeOf(row)), [0, 1, 3, 4]);
+  expect("keys", [0, 1, 2, 3, 4, 4.9].map((place) => scale.keyAt(place)), [1, 3, 4, 5, 7, 7]);
+  expect("the end", scale.end, 5);
+  expect("ticks of a bench", [20, 120, 121].map((count) => new Scale(script(Array(count).fill("tick")), count).isTime), [false, false, true]);
+});
+
+/** The second task of the tick finds no core set: what the first one established is seen nowhere but in that moment. */
+test("moments are kept", () => {
+  const task = (/** @type {string} */ at) => `[[task]]\nat = "${at}"\nbank = "00005"\naction = "novac 20 04${at.slice(2)} 00005"\n`;
+  const run = runOf(`script = ${JSON.stringify([...Array(6).fill("novac 10 05000 00005"), "list 1 02100 00005", "list 1 02200 00005", "tick"])}\n${task("02100")}${task("02200")}`);
+  expect("an alarm", run.alarms, [9]);
+  const set = run.lanes.sets.map((_, k) => run.lanes.blockAtKey(k, 2 * 9)?.at);
+  expect("the job of the moment runs", set.filter((it) => it === 0o4100 || it === 0o4200).length, 1);
+  expect("after it nobody does", run.lanes.sets.map((_, k) => run.lanes.blockAt(k, 9)), Array(7).fill(null));
+  const picture = pictureOf(run, run.count, { width: 900 });
+  expect("it is told", svgOf(picture).includes("job 7, 04100") || svgOf(picture).includes("job 7, 04200"), true);
+});
+
+/** What is said at a place: of the job that is there then, of a free place, of a strip, and of an alarm's line. */
+test("places are told", () => {
+  const run = script(["list 5 02000 00005", ...Array(24).fill("tick"), "findvac 20 04000 00005", "findvac 20 04100 00005", "end"]);
+  const picture = pictureOf(run, run.count, { width: 900, opened: ["areas", "tasks"] });
+  const at = (/** @type {string} */ kind, /** @type {number} */ k, /** @type {number} */ row) => {
+    const band = picture.bands.find((it) => it.kind === kind && it.k === k);
+    return hitAt(picture, xOfRow(picture, row) + 1, (band?.top ?? 0) + 2)?.text.split("\n");
+  };
+  expect("a task", at("task", 0, 5), ["request 5, Waitlist", "task 02000", "since request 1", "until 0.05 s (request 6)"]);
+  expect("a place that is free again", at("task", 0, 6), ["request 6, Waitlist: nothing waits here"]);
+  expect("a job", at("set", 0, 28), ["request 28, core set 0", "job 2, 04100", "priority 20, runs, VAC area 2", "since 0.24 s (request 27)", "still there at the end"]);
+  expect("the first area", at("area", 0, 27), ["request 27, VAC area 1", "job 1, 04000", "priority 20, runs, VAC area 1", "since 0.24 s (request 26)", "until 0.24 s (request 28): end"]);
+  expect("a free core set", at("set", 3, 28), ["request 28, core set 3: free"]);
+  expect("beside all", hitAt(picture, 5, 1), null);
+});
+
+/** Digits are 0.64 of their size wide. A longer name isn't written where it has no room. */
+test("texts have room", () => {
+  expect("how wide a code is", textWidth("1202", 12), 30.72);
+  const named = (/** @type {string} */ name) => pictureOf(runOf(WORK.replace('"WORK"', `"${name}"`)), 40, { width: 400 })
+    .marks.filter((it) => it.kind === "text").map((it) => it.text);
+  expect("a name that has room", named("WORK").includes("WORK"), true);
+  expect("a name that has none", named("W".repeat(90)).includes("W".repeat(90)), false);
+});
+
+/** No text is smaller than 12 points, meets another one, or leaves the picture, and neither does any mark. */
+test("nothing meets", () => {
+  const names = readdirSync(new URL("examples/", TOP)).filter((it) => it.endsWith(".toml"));
+  for (const name of names) {
+    const run = runOf(readFileSync(new URL(`examples/${name}`, TOP), "utf8"));
+    for (const view of [{ width: 960 }, { width: 360, high: 20 }, { width: 1900, text: 19, high: 40, opened: ["areas", "tasks"] },
+      { width: 700, parts: ["title", "events", "work", "sets", "strips", "before", "axis", "budget", "legend"], title: "A ".repeat(99), before: { run, count: run.count } }]) {
+      expect(`${name}, ${view.width} points wide`, faultsOf(pictureOf(run, run.count, view)), []);
+    }
+  }
+});
+
+/** A job has one colour, before and after, and whichever run is drawn first. */
+test("colours stay", () => {
+  const text = readFileSync(new URL("examples/landing.toml", TOP), "utf8");
+  const [run, other] = [runOf(text), runOf(text.replace("steal = 15", "steal = 0"))];
+  const names = new Names(run.bench);
+  const colours = new Colours(run.bench, names);
+  const fills = (/** @type {Run} */ one) => new Set(pictureOf(one, one.count, { width: 900, names, colours, before: { run, count: run.count } })
+    .marks.flatMap((it) => (it.kind === "rect" && /^[bph][0-9]/.test(it.fill) ? [it.fill.slice(1)] : [])));
+  expect("two jobs, two colours", [[...fills(run)].sort(), [...fills(other)].sort()], [["0", "1"], ["0", "1"]]);
+  expect("red is for alarms", new Set(pictureOf(other, other.count, { width: 900 }).marks.flatMap((it) =>
+    (it.fill === "alarm" || (it.kind === "path" && it.stroke === "alarm") ? [it.kind] : []))).size, 0);
+});
+
+/** A name is text, whatever is in it, and the same run makes the same picture. */
+test("names are no markup", () => {
+  const name = "</title><script>x</script>&amp;\"']]>";
+  const text = WORK.replace('"WORK"', JSON.stringify(name)).replace('"begin"', JSON.stringify(name));
+  const [one, other] = [runOf(text), runOf(text)].map((run) => svgOf(pictureOf(run, run.count, { width: 1200 }), name));
+  expect("markup", /<script|<\/title><s/.test(one), false);
+  expect("the name", one.includes("&lt;/title&gt;&lt;script&gt;x&lt;/script&gt;&amp;amp;&quot;&#39;]]&gt;"), true);
+  expect("the same picture", one === other, true);
+});
+
+test("the pictures in examples/ are those of their documents", () => {
+  for (const name of readdirSync(new URL("examples/", TOP)).filter((it) => it.endsWith(".svg"))) {
+    const [svg, text] = [name, name.replace(".svg", ".toml")].map((it) => readFileSync(new URL(`examples/${it}`, TOP), "utf8"));
+    assert.ok(drawn(text, { width: 680, isEight: false }).svg === svg, `${name}: web/picture.mjs draws it otherwise`);
+  }
+});

@@ -1,0 +1,98 @@
+/**
+ * The form of *New*: jobs that come again and again, in seconds and decimal numbers. It writes the scenario, which the editor
+ * shows, and gives the addresses.
+ *
+ * @typedef {{ name: string, every: number, needs: number, priority: number, deadline: number | null, hasArea: boolean }} Built in centiseconds
+ */
+import { leftOut, writeBench } from "./bench.js";
+import { short } from "./because.js";
+import { assign, button, by, fill, labelled, make, set } from "./dom.js";
+import { act, differ } from "./state.js";
+import { octal } from "./words.js";
+
+/** @typedef {import("./state.js").State} State */
+
+/** Each job has a task, and so many tasks may wait; how long the run lasts. */
+const MOST_BUILT = 9;
+const LASTS = 60;
+
+/** The scenario of these jobs. @param {Built[]} jobs */
+export function scenarioOf(jobs) {
+  const places = jobs.map((_, k) => ({ job: octal(0o4000 + 0o100 * k, 5), task: octal(0o2000 + 0o100 * k, 5) }));
+  return writeBench({
+    ...leftOut("scenario"), title: "My jobs", seconds: LASTS,
+    job: jobs.map(({ name, needs, deadline }, k) => ({ name, at: places[k].job, cost: needs, ...(deadline === null ? {} : { deadline }) })),
+    event: [{ name: "start", at: 0, do: places.map(({ task }) => `list 1 ${task} 00005`) }],
+    task: jobs.map(({ name, every, priority, hasArea }, k) => ({ name, at: places[k].task, bank: "00005",
+      action: [`${hasArea ? "findvac" : "novac"} ${octal(priority, 2)} ${places[k].job} 00007`, `list ${every} ${places[k].task} 00005`] })),
+  });
+}
+
+/** The fields: each has its label, its first value, and what it has to be. @type {Record<string, { label: string, first: string, low: number, high: number, unit: string }>} */
+const FIELDS = {
+  every: { label: "every", first: "2", low: 0.01, high: 162.5, unit: "seconds" }, needs: { label: "needs", first: "0.5", low: 0.01, high: 10_000, unit: "seconds" },
+  priority: { label: "priority", first: "16", low: 1, high: 31, unit: "a greater one is more urgent" },
+  deadline: { label: "deadline", first: "", low: 0.01, high: 86_400, unit: "seconds; none if it is empty" },
+};
+
+/** What is wrong with a field; nothing where it is a number. @param {string} id @param {string} text */
+function faultOf(id, text) {
+  const { label, low, high, unit } = FIELDS[id];
+  if (id === "deadline" && text === "") return null;
+  const number = Number(text.replace(",", "."));
+  const isWhole = id !== "priority" || Number.isInteger(number);
+  return text.trim() !== "" && isWhole && number >= low && number <= high ? null : `${label}: a number, ${low} to ${high} (${unit})`;
+}
+
+/** Adds the job that the fields say. @param {Record<string, any>} fields @param {Built[]} jobs */
+function add(fields, jobs) {
+  const faults = Object.keys(FIELDS).map((it) => faultOf(it, fields[it].value));
+  const wrong = Object.keys(FIELDS).findIndex((_, k) => faults[k] !== null);
+  set(by("build-fault"), wrong < 0 ? "" : faults[wrong] ?? "");
+  if (wrong >= 0) {
+    fields[Object.keys(FIELDS)[wrong]].focus();
+    return;
+  }
+  const valueOf = (/** @type {string} */ id) => Number(fields[id].value.replace(",", "."));
+  const ticks = (/** @type {string} */ id) => Math.round(100 * valueOf(id));
+  const name = fields.name.value.trim() || `job ${jobs.length + 1}`;
+  act("build", [...jobs, { name, every: ticks("every"), needs: ticks("needs"), priority: valueOf("priority"),
+    deadline: fields.deadline.value === "" ? null : ticks("deadline"), hasArea: fields.hasArea.checked }]);
+}
+
+/** @param {Built} job @param {Built[]} jobs */
+function lineOf(job, jobs) {
+  const { name, every, needs, priority, deadline, hasArea } = job;
+  const told = `${name}: every ${short(every)} it needs ${short(needs)}, priority ${priority}${deadline === null ? "" : `, deadline ${short(deadline)}`}${hasArea ? ", with a VAC area" : ""}. `;
+  return make("li", {}, told, button("Remove", () => act("build", jobs.filter((it) => it !== job))));
+}
+
+/** @param {State} now @param {State} before */
+export function build(now, before) {
+  if (!differ(now, before, "built", "run")) return;
+  const { built, run } = now;
+  const isThere = built !== null && run.source.document === built.document;
+  assign(by("build"), { hidden: !isThere });
+  if (!isThere) return;
+  const { jobs } = built;
+  if (by("build-fields").childElementCount === 0) makeFields();
+  assign(by("build-add"), { disabled: jobs.length >= MOST_BUILT });
+  fill("built", jobs.map((it) => lineOf(it, jobs)));
+  by("build-fields").jobs = jobs;
+}
+
+function makeFields() {
+  /** @type {Record<string, any>} */
+  const fields = { name: make("input", { type: "text", size: 12, maxLength: 30, autocomplete: "off" }), hasArea: make("input", { type: "checkbox" }) };
+  for (const [id, { first, unit }] of Object.entries(FIELDS)) fields[id] = make("input", { type: "text", size: 5, value: first, title: unit, inputMode: "decimal", autocomplete: "off" });
+  const go = () => {
+    add(fields, by("build-fields").jobs);
+    fields.name.select();
+  };
+  by("build-fields").addEventListener("keydown", (/** @type {KeyboardEvent} */ event) => {
+    if (event.key === "Enter" && event.target instanceof HTMLInputElement) go();
+  });
+  const units = (/** @type {string} */ id) => (id === "priority" ? "priority, 1 to 31" : `${FIELDS[id].label}, s`);
+  fill("build-fields", [labelled("job", fields.name), ...Object.keys(FIELDS).map((it) => labelled(units(it), fields[it])),
+    make("label", { class: "check" }, fields.hasArea, " with a VAC area"), button("Add", go, { id: "build-add", class: "primary" })]);
+}

@@ -1,0 +1,126 @@
+/**
+ * Which part of a run is seen, and what lies where across: time in centiseconds, or where hardly any
+ * time goes by, the requests. By requests each one has a column for what it has left, and before that
+ * another one for what a restart swept.
+ */
+import { lastUpTo } from "./lanes.js";
+
+/** The least part that is zoomed to: ticks, or requests. */
+const LEAST_SPAN = 20;
+
+/** Up to how many requests of a bench have a column each, even if time goes by. */
+const FEW = 120;
+
+/** How far two marks of an axis are apart at least, in points: of seconds, and of requests. */
+const APART = [90, 45];
+
+export class Scale {
+  /** @param {import("./run.js").Run} run @param {number} count */
+  constructor(run, count) {
+    this.run = run;
+    this.count = count;
+    const isLong = run.bench.seconds !== undefined || count > FEW;
+    this.isTime = isLong && run.ticksAt(count) >= LEAST_SPAN;
+    this.end = Math.max(1, this.isTime ? run.ticksAt(count) : this.placeOf(count) + 1);
+    this.from = 0;
+    this.to = this.end;
+  }
+
+  /** Whether all of the run is seen. */
+  get isWhole() {
+    return this.from === 0 && this.to === this.end;
+  }
+
+  /** How many restarts there were up to a row. @param {number} row */
+  erasUpTo(row) {
+    const { eras } = this.run.lanes;
+    return lastUpTo(eras, eras.length, row) + 1;
+  }
+
+  /** @param {number} row */
+  placeOf(row) {
+    return this.isTime ? this.run.ticksAt(row) : row + this.erasUpTo(row);
+  }
+
+  /** The place of an entry of the lanes. @param {number} key */
+  placeOfKey(key) {
+    const row = key >> 1;
+    return this.isTime || (key & 1) === 1 ? this.placeOf(row) : this.placeOf(row) - 1;
+  }
+
+  /** The last row at a place. @param {number} place */
+  rowAt(place) {
+    return Math.min(this.count, this.keyAt(place) >> 1);
+  }
+
+  /** The first row at a place, or after it. @param {number} place */
+  firstRow(place) {
+    return this.isTime ? this.run.rowAtTime(Math.ceil(place), this.count) : this.rowAt(place);
+  }
+
+  /** The last key at a place: what entry of the lanes holds there. @param {number} place */
+  keyAt(place) {
+    const whole = Math.max(0, Math.floor(place));
+    if (this.isTime) {
+      const next = this.run.rowAtTime(whole + 1, this.count);
+      return 2 * (this.run.ticksAt(next) > whole ? Math.max(0, next - 1) : next) + 1;
+    }
+    let [low, high] = [0, this.count + 1];
+    while (low + 1 < high) {
+      const middle = (low + high) >> 1;
+      if (this.placeOf(middle) <= whole) low = middle;
+      else high = middle;
+    }
+    return this.placeOf(low) < whole && low < this.count ? 2 * low + 2 : 2 * low + 1;
+  }
+
+  /** How far across a place is: 0 is the left edge, and 1 the right. @param {number} place */
+  partOf(place) {
+    return (place - this.from) / (this.to - this.from);
+  }
+
+  /** Sees this part, within the run. @param {number} from @param {number} to */
+  see(from, to) {
+    const span = Math.min(this.end, Math.max(Math.min(LEAST_SPAN, this.end), to - from));
+    this.from = Math.max(0, Math.min(from, this.end - span));
+    this.to = this.from + span;
+  }
+
+  /** Sees more, or less: what is at this part of the width stays there. @param {number} times @param {number} part */
+  zoom(times, part) {
+    const span = this.to - this.from;
+    const still = this.from + part * span;
+    this.see(still - part * span * times, still + (1 - part) * span * times);
+  }
+
+  /** @param {number} part of what is seen */
+  move(part) {
+    const by = part * (this.to - this.from);
+    this.see(this.from + by, this.to + by);
+  }
+
+  /** Takes over what another scale sees. @param {Scale} other */
+  like(other) {
+    if (other.isTime !== this.isTime) return;
+    if (!other.isWhole) this.see(other.from, Math.min(other.to, this.end));
+  }
+
+  /** The marks of an axis this wide: round numbers of seconds, or of requests. @param {number} width in points */
+  marks(width) {
+    const most = Math.max(2, Math.floor(width / APART[this.isTime ? 0 : 1]));
+    const step = stepOf(Math.max((this.to - this.from) / most, this.isTime ? 0 : 1));
+    const first = Math.ceil(this.from / step);
+    return Array.from({ length: Math.max(0, Math.floor(this.to / step) - first + 1) }, (_, k) => {
+      const at = (first + k) * step;
+      return this.isTime ? { place: at, text: `${at / 100} s` } : { place: this.placeOf(at), text: String(at) };
+    }).filter(({ place }) => place >= this.from && place <= Math.min(this.to, this.placeOf(this.count)));
+  }
+}
+
+/** The least round number that is as much or more. @param {number} least */
+function stepOf(least) {
+  for (let ten = 1; ; ten *= 10) {
+    const found = [1, 2, 5].find((it) => it * ten >= least);
+    if (found !== undefined) return found * ten;
+  }
+}

@@ -1,0 +1,158 @@
+/**
+ * What each exercise asks for: its fields, and the answers, which the machine finds. A field has a label and, where one of
+ * a few is right, its options; an answer is a text, and where it is a number or addresses, spelled in any way.
+ *
+ * @typedef {import("./run.js").Run} Run
+ * @typedef {{ label: string, options?: string[], answer: (run: Run) => { value: string, row?: number } }} Field
+ */
+import { Machine } from "../libagc/js/machine.js";
+import { readBench, requestsOf } from "./bench.js";
+import { runOf } from "./clock.js";
+import { NO_SOURCE } from "./run.js";
+import { firstAlarm } from "./sweep.js";
+import { octal } from "./words.js";
+
+const CODES = ["none", "1201", "1202", "1203"];
+
+/** The whole run of a document. @param {string} text */
+export function whole(text) {
+  const bench = readBench(text);
+  return runOf(bench, requestsOf(bench), { source: { ...NO_SOURCE, document: text } }, Infinity);
+}
+
+/** The whole run of a document, with a change of its text. @param {Run} run @param {(text: string) => string} change */
+const changed = (run, change) => whole(change(run.source.document));
+
+/** @param {Run} run */
+function first(run) {
+  const [row] = run.alarms;
+  return row === undefined ? { row: run.count, code: "none", time: "none", request: "none" }
+    : { row, code: octal(run.columns.numbers.items[row], 4), time: (run.ticksAt(row) / 100).toFixed(2), request: String(row) };
+}
+
+/** @param {(found: ReturnType<typeof first>) => string} part @param {(text: string) => string} [change] */
+const ofFirst = (part, change) => (/** @type {Run} */ run) => {
+  const found = first(change === undefined ? run : changed(run, change));
+  return { value: part(found), row: first(run).row };
+};
+
+/** A row with its tables. @param {Run} run @param {number} row */
+const shown = (run, row) => run.show(row, row)[0];
+
+/** What begins again after the first alarm, or with power: jobs or tasks, by address. @param {Run} run @param {"sets" | "tasks"} of */
+function again(run, of) {
+  const { scene, after } = shown(run, run.alarms[0] ?? 0);
+  return (after ?? scene)[of].flatMap((it) => (it === null ? [] : [octal(it.at, 5)])).sort();
+}
+
+/** @param {Run} run @param {string} without @param {"sets" | "tasks"} of */
+function lostWithout(run, without, of) {
+  const left = again(changed(run, (text) => text.replace(new RegExp(`"${without}",\\s*`), "")), of);
+  return { value: again(run, of).filter((it) => !left.includes(it)).join(", ") || "none", row: run.alarms[0] };
+}
+
+/** How often this is put in before the request that raises the alarm, until none comes. @param {Run} run @param {string} line */
+function least(run, line) {
+  const { bench, alarms } = run;
+  let lines = bench.script;
+  for (let count = 0; ; count++) {
+    const now = runOf({ ...bench, script: lines }, requestsOf({ ...bench, script: lines }), {}, Infinity);
+    const [row] = now.alarms;
+    if (row === undefined) return { value: String(count), row: alarms[0] };
+    lines = [...lines.slice(0, row - 1), line, ...lines.slice(row - 1)];
+  }
+}
+
+/** The shortest of all orders in which an alarm comes: how many requests, and which. @param {Run} run */
+function shortest({ bench }) {
+  const scripts = bench.worker.map((it) => it.script);
+  let reached = [{ machine: new Machine({ sets: bench.sets ?? 7, plan: bench }), at: scripts.map(() => 0) }];
+  for (let count = 1; reached.length > 0; count++) {
+    const next = new Map();
+    for (const { machine, at } of reached) for (const [k, script] of scripts.entries()) {
+      if (at[k] >= script.length) continue;
+      const copy = machine.copy();
+      const step = copy.ask(script[at[k]]);
+      if (step.alarm !== 0) return { count: String(count), code: octal(step.number, 4) };
+      const there = at.map((it, n) => it + (n === k ? 1 : 0));
+      next.set(`${there} ${copy.words}`, { machine: copy, at: there });
+    }
+    reached = [...next.values()];
+  }
+  return { count: "none", code: "none" };
+}
+
+/** The greatest percentage that may be stolen without an alarm. @param {Run} run @param {number} seconds */
+function mostStolen({ bench }, seconds) {
+  for (let steal = 0; steal <= 100; steal++) {
+    const steps = firstAlarm({ ...bench, steal, seconds });
+    let step = steps.next();
+    while (!step.done) step = steps.next();
+    if (step.value !== null) return { value: String(steal - 1) };
+  }
+  return { value: "100" };
+}
+
+/** @param {Run} run @param {(running: number, before: number) => boolean} holds */
+function rowWhere(run, holds) {
+  const rows = run.show(0, run.count);
+  const found = rows.find((it, k) => k > 0 && holds(it.scene.running, rows[k - 1].scene.running));
+  return { value: String(found?.row ?? "none"), row: found?.row };
+}
+
+const alarm = (/** @type {string} */ label, /** @type {any} */ change) => ({ label, options: CODES, answer: ofFirst((it) => it.code, change) });
+const request = (/** @type {string} */ label) => ({ label, answer: ofFirst((it) => it.request) });
+
+const eight = (/** @type {string} */ text) => `sets = 8\n${text}`;
+const mended = (/** @type {string} */ text) => text.replace("77762", "77772");
+const saved = (/** @type {string} */ text) => text.replace('"phase 5 1"', '"phase 3 1", "phase 5 1"');
+
+/** @type {Record<string, { hint: string, fields: Field[] }>} */
+export const EXERCISES = {
+  "exercise-1": { hint: "Each findvac takes a core set and an area, each novac a core set alone; each end frees what the running job holds.",
+    fields: [request("Which request is one too many?"), alarm("Which alarm?")] },
+  "exercise-2": { hint: "A job that sleeps keeps its core set. Go through the script and note who sleeps.", fields: [
+    { label: "How many core sets do sleepers hold?", answer: (run) => ({ value: String(shown(run, run.alarms[0]).scene.sets.filter((it) => it?.asleep).length), row: run.alarms[0] }) },
+    { label: "Since which request does the first job hold its set?", answer: (run) => ({ value: String(Math.min(...shown(run, run.alarms[0]).jobsSince.map((it) => it >> 1))), row: run.alarms[0] }) }] },
+  "exercise-3": { hint: "Which table does findvac look at first? The slide on alarms says it.",
+    fields: [alarm("Which alarm now?"), alarm("And with a free area?", (/** @type {string} */ text) => text.replace("findvac", "novac"))] },
+  "exercise-4": { hint: "Each pass leaves one job more. How many core sets are missing in the last pass?",
+    fields: [{ label: "How many more ends?", answer: (run) => least(run, "end") }] },
+  "exercise-5": { hint: "A place is free again when the first task fires: which has the shortest delay?",
+    fields: [request("Which request doesn't fit?"), { label: "How many ticks before it, at least?", answer: (run) => least(run, "tick") }] },
+  "exercise-6": { hint: "Only what a [[phase]] table names begins again, and only if its group is in that phase.", fields: [
+    { label: "Which jobs are there after the alarm? Addresses", answer: (run) => ({ value: again(run, "sets").join(", "), row: run.alarms[0] }) },
+    { label: "Which tasks?", answer: (run) => ({ value: again(run, "tasks").join(", "), row: run.alarms[0] }) },
+    { label: "Without phase 3 2: which job is lost?", answer: (run) => lostWithout(run, "phase 3 2", "sets") },
+    { label: "Without phase 1 1: which job?", answer: (run) => lostWithout(run, "phase 1 1", "sets") },
+    { label: "And which task?", answer: (run) => lostWithout(run, "phase 1 1", "tasks") }] },
+  "exercise-7": { hint: "A new job never interrupts: look for the request by which the running job lets another one run.", fields: [
+    { label: "Which request makes job 2 run?", answer: (run) => rowWhere(run, (now) => now === 2) },
+    { label: "How many requests after it was established?", answer: (run) => ({ value: String(Number(rowWhere(run, (now) => now === 2).value) - 3), row: 3 }) },
+    { label: "After which request does job 1 run again?", answer: (run) => rowWhere(run, (now, before) => now === 1 && before !== 1 && before !== 0) }] },
+  "exercise-8": { hint: "Three sleepers leave four core sets of seven, or five of eight; and there are five areas.", fields: [
+    alarm("Seven sets: which alarm?"), { label: "when, in seconds?", answer: ofFirst((it) => it.time) }, request("in which request?"),
+    alarm("Eight sets: which alarm?", eight), { label: "when?", answer: ofFirst((it) => it.time, eight) }, { label: "in which request?", answer: ofFirst((it) => it.request, eight) }] },
+  "exercise-9": { hint: "How many areas do both threads hold together if neither has ended a job yet?", fields: [
+    alarm("In the order shown: which alarm?"), { label: "In another order?", options: CODES, answer: (run) => ({ value: shortest(run).code }) },
+    { label: "After how many requests, at least?", answer: (run) => ({ value: shortest(run).count }) }] },
+  "exercise-10": { hint: "The job needs 80 % of each second. What is left over each second with 21 %, and how much fills five areas?", fields: [
+    { label: "Two minutes: the greatest percentage without an alarm?", answer: (run) => mostStolen(run, 120) },
+    { label: "Ten minutes?", answer: (run) => mostStolen(run, 600) }] },
+  "exercise-11": { hint: "Turn over every bit of the second word of a line: 0 becomes 7, 1 becomes 6. Is it the first?", fields: [
+    { label: "Which group's words are damaged?", answer: ({ bench }) => ({ value: String(1 + [0, 1, 2, 3, 4, 5].findIndex((k) => parseInt(bench.power?.[2 * k] ?? "", 8) + parseInt(bench.power?.[2 * k + 1] ?? "", 8) !== 0o77777)) }) },
+    { label: "Mended: which jobs begin again? Addresses", answer: (run) => ({ value: again(changed(run, mended), "sets").join(", ") }) },
+    { label: "Which task?", answer: (run) => ({ value: again(changed(run, mended), "tasks").join(", ") }) }] },
+  "exercise-12": { hint: "Of each two seconds 1.6 + 2 × 0.3 are asked for. Where do the display's jobs wait, and who begins again?", fields: [
+    { label: "How many alarms?", answer: (run) => ({ value: String(run.alarms.length), row: run.alarms[0] }) },
+    { label: "The first one: when, in seconds?", answer: ofFirst((it) => it.time) }, alarm("Which alarm?"),
+    { label: "With a phase for the display: how many?", answer: (run) => ({ value: String(changed(run, saved).alarms.length) }) }] },
+};
+
+/** What a class may type for the same: without zeros at the ends of a number, in any order of addresses. @param {string} text */
+export function plainly(text) {
+  const addresses = text.match(/[0-7]{5}/g);
+  if (addresses !== null) return addresses.sort().join(" ");
+  const number = /^[0-9]+([.,][0-9]+)?( ?(s|%|cs))?$/.test(text.trim()) ? parseFloat(text.replace(",", ".")) : NaN;
+  return Number.isNaN(number) ? text.trim().toLowerCase() : String(number);
+}

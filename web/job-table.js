@@ -1,0 +1,53 @@
+/** The table of jobs: what each needs and how often, how long it took, and who missed a deadline; a click goes there. */
+import { short } from "./because.js";
+import { assign, button, by, fill, make } from "./dom.js";
+import { budgetOf } from "./drawing-work.js";
+import { jobsOf } from "./jobs.js";
+import { act, coloursOf, differ, isHidden, namesOf } from "./state.js";
+import { counted, octal, seconds } from "./words.js";
+
+/** @typedef {import("./state.js").State} State @typedef {import("./jobs.js").JobRow} JobRow */
+
+/** Hundredths of a centisecond, to the nearest centisecond. @param {number} hundredths */
+const took = (hundredths) => seconds(Math.floor((hundredths + 50) / 100));
+
+const percent = (/** @type {number} */ part) => `${Math.round(100 * part)} %`;
+
+/** Which part of the time jobs ask for; null where none is known. @param {JobRow} row */
+function utilization({ cost, period }) {
+  if (cost === null || period === null) return null;
+  return (typeof cost === "number" ? cost : (cost.from + cost.to) / 2) / period;
+}
+
+/** @param {JobRow} row @param {any} name what stands in its first cell */
+function lineOf(row, name) {
+  const { priority, cost, period, deadline, ended, least, mean, most, share, missed, missedRow } = row;
+  const part = utilization(row);
+  const told = `${counted(row.began, "job")} began, ${ended} ended, ${row.lost} were lost with a restart, ${row.alive} live`;
+  const costs = cost === null ? "–" : typeof cost === "number" ? short(cost) : `${short(cost.from)} to ${short(cost.to)}`;
+  const late = deadline === null ? "–" : missed === 0 ? "0"
+    : button(String(missed), () => act("late", missedRow), { title: "To the first one that is late" });
+  return make("tr", { title: told }, make("td", {}, ...name), ...[priority < 8 ? octal(priority, 2) : `${octal(priority, 2)} (${priority})`, period === null ? "–" : short(period), costs, deadline === null ? "–" : short(deadline),
+    part === null ? "–" : percent(part), percent(share), ...[least, mean, most].map((it) => (ended === 0 ? "–" : took(it))), late].map((it) => make("td", {}, it)));
+}
+
+/** @param {State} now @param {State} before */
+export function jobs(now, before) {
+  const { run, count } = now;
+  if (!differ(now, before, "run", "count", "hidden") || run.isFilling) return;
+  const rows = isHidden(now) || run.bench.seconds === undefined ? [] : jobsOf(run, count);
+  const box = by("jobs-box");
+  assign(box, { hidden: rows.length === 0 });
+  if (run.given !== before.run?.given) assign(box, { open: run.bench.job.some((it) => it.deadline !== undefined) });
+  const [names, colours] = [namesOf(run), coloursOf(run)];
+  const parts = rows.map((row) => ({ row, name: names.job(row.at) ?? octal(row.at, 5), part: utilization(row) ?? 0 }));
+  const stolen = (budgetOf(run, count, { from: 0, to: run.ticksAt(count) })?.stolen ?? 0) / 100;
+  const all = parts.reduce((sum, it) => sum + it.part, stolen);
+  const missed = rows.reduce((sum, it) => sum + it.missed, 0);
+  const told = [...parts.filter((it) => it.part > 0).map(({ name, part }) => `${name} ${percent(part)}`), ...(stolen > 0 ? [`stolen ${percent(stolen)}`] : [])];
+  fill("jobs-sum", [`Jobs: ${told.join(" + ")}${told.length > 1 ? ` = ${percent(all)}` : ""}`, ...(missed > 0 ? ["; ", make("span", { class: "late" }, `${counted(missed, "deadline")} missed`)] : [])]);
+  fill("jobs", [
+    ...parts.map(({ row, name }) => lineOf(row, [make("span", { class: `swatch j${1 + colours.of(row.at)}` }), name])),
+    make("tr", {}, make("td", { colSpan: 5 }, stolen > 0 ? `and stolen ${percent(stolen)}` : "all"), make("td", {}, percent(all)), make("td", { colSpan: 5 })),
+  ]);
+}

@@ -1,0 +1,95 @@
+/**
+ * What `agc_watch jobs` says of a run's jobs, by the same rules (docs/FORMATS.md): how long they took, and who missed
+ * a deadline. A time is in hundredths of a centisecond.
+ *
+ * @typedef {import("./run.js").Run} Run
+ * @typedef {{ at: number, priority: number, period: number | null, cost: number | { from: number, to: number } | null, deadline: number | null,
+ *   began: number, ended: number, lost: number, alive: number, least: number, mean: number, most: number, share: number,
+ *   missed: number, firstMissed: number | null, missedRow: number }} JobRow
+ */
+import { clockedOf } from "./drawing-work.js";
+import { lastUpTo } from "./lanes.js";
+
+/** A line that lists a task once more, from the action of the task itself. */
+export const AGAIN = /^list ([0-9]+) ([0-7]{5}) ([0-7]{5})$/;
+
+/**
+ * How often jobs at an address are asked for, in centiseconds: by the quickest task that lists itself, or event that has
+ * a period; null where none does.
+ * @param {import("./bench.js").Bench} bench
+ * @param {string} at
+ */
+export function periodOf({ task, event }, at) {
+  const begins = (/** @type {string[]} */ lines) => lines.some((it) => /^(novac|findvac) /.test(it) && it.split(" ")[2] === at);
+  const listed = task.filter((it) => begins(it.action)).flatMap((row) => row.action.flatMap((line) => {
+    const found = AGAIN.exec(line);
+    return found !== null && found[2] === row.at && found[3] === row.bank ? [Number(found[1])] : [];
+  }));
+  const all = [...listed, ...event.flatMap((it) => (it.every !== undefined && begins(it.do) ? [it.every] : []))];
+  return all.length === 0 ? null : Math.min(...all);
+}
+
+/**
+ * The run's jobs by the addresses at which they began, in the order in which the first of each did, up to a row.
+ * @param {Run} run
+ * @param {number} count
+ * @returns {JobRow[]}
+ */
+export function jobsOf(run, count) {
+  const clocked = clockedOf(run, count);
+  const isTimed = run.bench.seconds !== undefined;
+  const momentOf = (/** @type {number} */ row) => (isTimed ? clocked.moments[row] : 100 * run.ticksAt(row));
+  const isOver = isTimed && clocked.time >= 100 * (run.bench.seconds ?? 0) && count === run.count;
+  const now = isOver ? 100 * clocked.time : momentOf(count);
+  const { jobs, eras, sets } = run.lanes;
+  /** @type {Map<number, JobRow & { responses: number[] }>} */
+  const rows = new Map();
+  for (let id = 1; id < jobs.count && jobs.born.items[id] >> 1 <= count; id++) {
+    const [at, born, gone] = [jobs.at.items[id], jobs.born.items[id], jobs.gone.items[id]];
+    const row = rows.get(at) ?? rowOf(run, at, run.lanes.blockAtKey(jobs.place.items[id], born)?.priority ?? 0);
+    rows.set(at, row);
+    row.began += 1;
+    const isAlive = gone === 0 || gone >> 1 > count;
+    const end = isAlive ? now : momentOf(gone >> 1);
+    const isLost = !isAlive && (gone & 1) === 1 && eras[lastUpTo(eras, eras.length, gone >> 1)] === gone >> 1;
+    if (isAlive) row.alive += 1;
+    else if (isLost) row.lost += 1;
+    else row.responses.push(end - momentOf(born >> 1));
+    const due = momentOf(born >> 1) + 100 * (row.deadline ?? Infinity);
+    if (end <= due) continue;
+    row.missed += 1;
+    if (row.firstMissed !== null && row.firstMissed <= due) continue;
+    [row.firstMissed, row.missedRow] = [due, lateRow(momentOf, born >> 1, count, due)];
+  }
+  const left = isOver && sets[0] ? clocked.left : 0;
+  return [...rows.values()].map((row) => summedUp(row, (clocked.computed.get(row.at) ?? 0) + (clocked.cost > 0 && clocked.runner?.at === row.at ? left : 0), now));
+}
+
+/** The first row after a moment. @param {(row: number) => number} momentOf @param {number} from @param {number} to @param {number} due */
+function lateRow(momentOf, from, to, due) {
+  let [low, high] = [from, to];
+  while (low < high) {
+    const middle = (low + high) >> 1;
+    if (momentOf(middle) > due) high = middle;
+    else low = middle + 1;
+  }
+  return low;
+}
+
+/** @param {Run} run @param {number} at @param {number} priority */
+function rowOf({ bench }, at, priority) {
+  const given = bench.job.find((it) => parseInt(it.at, 8) === at);
+  return {
+    ...{ at, priority, period: periodOf(bench, at.toString(8).padStart(5, "0")), cost: given?.cost ?? null, deadline: given?.deadline ?? null },
+    ...{ began: 0, ended: 0, lost: 0, alive: 0, least: 0, mean: 0, most: 0, share: 0, missed: 0, firstMissed: null, missedRow: 0 },
+    responses: /** @type {number[]} */ ([]),
+  };
+}
+
+/** @param {JobRow & { responses: number[] }} row @param {number} computed @param {number} now @returns {JobRow} */
+function summedUp({ responses, ...row }, computed, now) {
+  const ended = responses.length;
+  const sum = responses.reduce((all, it) => all + it, 0);
+  return { ...row, ended, least: ended === 0 ? 0 : Math.min(...responses), mean: Math.floor(sum / Math.max(1, ended)),
+    most: Math.max(0, ...responses), share: now === 0 ? 0 : computed / now };
+}

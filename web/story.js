@@ -1,0 +1,201 @@
+/** The story beside the chart: the tour, what is told of the row, what may be tried, and an exercise's question. */
+import { accountOf, nameOfRestart, orderOf } from "./account.js";
+import { becauseOf } from "./because.js";
+import { outcomeOf } from "./chart.js";
+import { assign, button, by, fill, make, set, withCode } from "./dom.js";
+import { FIRST_ASKED } from "./first.js";
+import { GUESSES } from "./guesses.js";
+import { pieceOf } from "./pieces.js";
+import { predictionOf, verdictOf } from "./predict.js";
+import { LOG_FULL } from "./run.js";
+import { act, differ, isHidden, namesOf, rowsOf, shownOf } from "./state.js";
+import { octal, seconds, visible } from "./words.js";
+
+/** @typedef {import("./state.js").State} State @typedef {[string, string, ...any[]]} Try what is on the button, the action, and what it is given */
+
+const SEEN = "agc-workbench-guide";
+
+/** How many events may be left out. */
+const MOST_EVENTS = 2;
+
+/** Whether the tour was seen before. */
+export function isTourSeen() {
+  try {
+    return localStorage.getItem(SEEN) !== null;
+  } catch {
+    return false;
+  }
+}
+
+/** The steps of the tour: what each says, and its buttons. @param {State} now @returns {{ text: string, steps: Try[] }} */
+function tourOf(now) {
+  const { tour } = now;
+  const guesses = Object.entries(GUESSES).filter(([name]) => !tour.tried.some((it) => it.name === name))
+    .map(([name, { label }]) => /** @type {Try} */ ([label, "guess", name]));
+  return /** @type {{ text: string, steps: Try[] }[]} */ ([
+    { text: "In July 1969, minutes before it landed on the Moon, Apollo 11's computer ran out of room. This landing is like that one.\nEach row of the "
+        + "chart is a core set: a block of twelve words. A job needs one to exist, and there are seven. Bright is running, pale is waiting.", steps: [["Run", "run"]] },
+    { text: "Every two seconds a guidance job begins, the SERVICER. Watch the rows fill: more and more of them wait for the one before.",
+      steps: [["To the alarm", "alarm-next"]] },
+    { text: "Alarm 1202: all seven core sets are taken, and one more job asks for one.\nWhat would have prevented it? Guess first:",
+      steps: [...guesses, ...(tour.isWhy ? [] : [/** @type {Try} */ (["Why?", "why"])])] },
+    { text: [firstBecause(now), guesses.length > 0 ? "Try the others:" : "Now move the numbers below, or press New for an empty machine."].join("\n"),
+      steps: guesses },
+  ])[tour.step - 1];
+}
+
+/** Why the first alarm came in the run before the guesses. @param {State} now */
+function firstBecause({ before, run }) {
+  const first = before?.run ?? run;
+  const row = first.alarms[0];
+  const text = row === undefined ? "" : becauseOf(first, rowsOf(first).at(row), namesOf(first));
+  return text === "" ? "" : `At the alarm ${text[0].toLowerCase()}${text.slice(1)}`;
+}
+
+/** What came of a guess. @param {{ name: string, run: import("./run.js").Run }} tried */
+function triedText({ name, run }) {
+  const [first] = run.alarms;
+  const { done } = GUESSES[name];
+  if (first !== undefined) return `${done}: still alarm ${octal(run.columns.numbers.items[first], 4)}, at ${seconds(run.ticksAt(first))}.`;
+  return run.isFilling ? `${done}: no alarm up to ${seconds(run.head.now)} …` : `${done}: no alarm in ${run.bench.seconds} s. That prevents it.`;
+}
+
+/** Buttons of an element, made anew only where they differ. @param {string} id @param {Try[]} steps @param {(it: Try, k: number) => any} [more] */
+function buttons(id, steps, more = () => ({})) {
+  const key = JSON.stringify(steps.map(([name, action]) => [name, action]));
+  const place = by(id);
+  place.steps = steps;
+  if (place.dataset.key === key) return;
+  place.dataset.key = key;
+  const isIn = place.contains(document.activeElement);
+  fill(place, steps.map((it, k) => button(it[0], () => act(.../** @type {[string]} */ (place.steps[k].slice(1))), more(it, k))));
+  // (what stood here had the focus: what stands here now has it)
+  if (isIn) place.querySelector("button")?.focus({ preventScroll: true });
+}
+
+/** @param {State} now @param {State} before */
+export function tour(now, before) {
+  const { step, tried } = now.tour;
+  assign(by("guide"), { hidden: step === 0, className: `guide step-${step}` });
+  if (before.tour !== undefined && before.tour.step > 0 && step === 0) {
+    try {
+      localStorage.setItem(SEEN, "seen");
+    } catch {
+      // (a browser that keeps nothing shows it again)
+    }
+  }
+  if (step === 0) return;
+  const { text, steps } = tourOf(now);
+  set(by("guide-step"), `${step} of 4`);
+  const [lead, ...more] = text.split("\n");
+  if (by("guide-text").textContent !== [lead, ...more].join(" ")) fill("guide-text", [lead, ...more.flatMap((it) => [" ", make("span", { class: "more" }, it)])]);
+  buttons("guide-steps", [...steps, [step === 4 ? "Done" : "Skip", "tour", 0]], ([, action], k) =>
+    ({ class: k === 0 && step < 3 ? "primary" : action === "tour" ? "quiet last" : action === "why" ? "quiet" : "" }));
+  const lines = tried.map(triedText);
+  const list = by("tried");
+  if (list.childElementCount !== lines.length) fill(list, lines.map(() => make("li")));
+  lines.forEach((it, k) => {
+    set(list.children[k], it);
+    assign(list.children[k], { className: tried[k].run === now.run ? "shown" : "" });
+  });
+}
+
+/** At the beginning: how to go on. @param {State} now @param {any} shown @returns {Try[]} */
+function atBeginning({ run, count }, shown) {
+  if (count === 0 && run.source.document !== "") return [];
+  if (count === 0) {
+    const asks = FIRST_ASKED.map(([line]) => /** @type {Try} */ ([line, "ask", line]));
+    return [...asks, ["A landing with alarm 1202", "kept", "landing-1202"]];
+  }
+  const alarm = run.alarms.find((row) => row > shown.row && row <= count);
+  return alarm === undefined ? [] : [["To the first alarm", "go", alarm]];
+}
+
+/** At an alarm: what might have prevented it. @param {State} now @param {any} shown @returns {Try[]} */
+function atAlarm({ run, beside }, shown) {
+  const { bench } = run;
+  /** @type {Try[]} */
+  const found = [["The row before", "go", shown.row - 1]];
+  if (shown.step?.number === 0o1202 && run.sets === 7) found.push([beside === null ? "With eight core sets?" : "Stop comparing", "beside-sets-button"]);
+  if (bench.seconds === undefined) return found;
+  const isStolen = typeof bench.steal === "number" ? bench.steal > 0 : bench.steal.length > 0;
+  if (isStolen) found.push(["Without stolen time?", "change", { steal: 0 }, true]);
+  const later = bench.event.filter((it) => it.name !== undefined && (it.at > 0 || it.after !== undefined));
+  return [...found, ...later.slice(0, MOST_EVENTS).map((it) => /** @type {Try} */ ([`Without ${visible(it.name ?? "")}?`, "without", it.name]))];
+}
+
+/** What may be tried at a row: where an exercise's answer is hidden, only what doesn't give it away. @param {State} now @param {any} shown @returns {Try[]} */
+function triesOf(now, shown) {
+  if (shown.row === 0) return isHidden(now) ? [] : atBeginning(now, shown);
+  if (shown.kind === LOG_FULL) return [["With room for a million requests", "room"]];
+  const restart = nameOfRestart(shown.line);
+  /** @type {Try[]} */
+  const after = shown.after === null && !shown.isAfter ? [] : [shown.isAfter ? [`Before the ${restart}`, "go", shown.row] : [`After the ${restart}`, "after"]];
+  const isAlarm = shown.step !== null && shown.step.alarm !== 0 && !shown.isAfter;
+  return [...after, ...(isAlarm && !isHidden(now) ? atAlarm(now, shown) : [])];
+}
+
+let drawn = "";
+
+/** @param {State} now @param {State} before */
+export function account(now, before) {
+  if (!differ(now, before, "run", "count", "at", "isAfter", "hidden", "beside", "tour")) return;
+  const { run, count } = now;
+  const shown = shownOf(now);
+  const names = namesOf(run);
+  const { heading, lines, isAlarm } = accountOf(run, shown, names, { about: run.about, count, isHidden: isHidden(now) });
+  // (the tour asks for a guess first)
+  assign(by("told"), { hidden: now.tour.step > 0 && !(now.tour.isWhy && isAlarm), className: isAlarm ? "told alarm" : shown.row === 0 ? "told" : "told plain" });
+  set(by("told-name"), heading);
+  set(by("because"), isAlarm ? becauseOf(run, shown, names) : "");
+  buttons("try", triesOf(now, shown));
+  assign(by("try"), { hidden: by("try").childElementCount === 0 });
+  const isAsked = shown.who !== "nobody" && !shown.isAfter;
+  const all = [...lines, ...(isAsked ? [[`Asked by ${shown.who}.`]] : [])];
+  const key = JSON.stringify(all);
+  if (key === drawn) return;
+  drawn = key;
+  fill("account", all.map((line) => make("li", {}, ...line.map(pieceOf))));
+  by("account").scrollTop = 0;
+}
+
+/** An exercise: its question, its document, and what may be done. @param {State} now @param {State} before */
+export function question(now, before) {
+  if (!differ(now, before, "run", "count", "hidden", "predicted", "tries")) return;
+  const { run, count } = now;
+  const { question: asked, document, exercise } = run.source;
+  assign(by("question"), { hidden: asked === "" });
+  const isChanged = asked !== "" && (run.source.isChanged || run.isChanged(count));
+  const key = JSON.stringify([asked, document, isHidden(now), isChanged, now.predicted, now.tries]);
+  if (by("question").dataset.key === key) return;
+  by("question").dataset.key = key;
+  if (asked === "") {
+    fill("question", []);
+    return;
+  }
+  const [, ...lines] = asked.split("\n");
+  const order = isHidden(now) ? "" : orderOf(run.bench);
+  const verdict = isHidden(now) ? [] : verdictOf(now);
+  const names = now.kept.filter((it) => it.kind === "exercise").map((it) => it.name);
+  const at = names.indexOf(exercise);
+  const next = names[at + 1];
+  fill("question", [
+    make("h2", { class: "which", id: "which" }, `Exercise ${at + 1} of ${names.length}`),
+    make("p", {}, ...withCode(lines.join(" "))),
+    make("div", { class: "parts", role: "group", "aria-label": "The document" }, ...document.trim().split(/\n\n+/).map((it) => make("pre", {}, it))),
+    ...(order === "" ? [] : [make("p", { id: "order" }, order)]),
+    ...(isHidden(now) ? predictionOf(now) : []),
+    ...(verdict.length === 0 ? [] : [make("ul", { class: "verdict", id: "verdict", role: "status" }, ...verdict)]),
+    make("div", { class: "steps" }, ...(isHidden(now) ? [button("Show what happens", () => act("reveal"), { id: "show-answer" })] : []),
+      button("Change it", () => act("edit"), { id: "change-exercise" }),
+      ...(next === undefined ? [] : [button("Next exercise", () => act("kept", next), { id: "exercise-next" })]),
+      ...(isChanged ? [button("Back to the exercise as it was", () => act("kept", exercise), { id: "exercise-again" }), "You have changed this exercise."] : [])),
+  ]);
+}
+
+/** What is said of a run beside. @param {State} now @param {number} row @param {string} reply */
+export function besideText({ beside }, row, reply) {
+  if (beside === null) return "";
+  const { run, name } = beside;
+  return `For comparison, ${name}: request ${row}, ${reply}. ${run.isFilling ? "So far" : "In all"} ${outcomeOf(run, run.count)}.`;
+}
