@@ -6,8 +6,8 @@ use Rattle.std.proofs.lemmas.List.Concat.{flat_map-cons}
 use Rattle.agc_document.specs.Benches.{Benched}
 use Rattle.agc_plan.proofs.Lists.{next_is, none_left}
 use Rattle.agc_plan.specs.declared.request.Request.{Request}
-use Rattle.agc_session.proofs.Pieces.{pieces_ask}
-use Rattle.agc_session.specs.Pieces.{Piece, Walked, piece_requests, bench_pieces, to_come}
+use Rattle.agc_session.proofs.Pieces.{piece_requests, pieces_ask}
+use Rattle.agc_session.specs.Pieces.{Piece, Walked, bench_pieces, to_come}
 use Rattle.agc_session.specs.Runs.{bench_requests}
 use Rattle.agc_session.specs.declared.source.Source.{Source as BenchSource}
 use Rattle.agc_run.specs.declared.pending_requests.Call.{Call}

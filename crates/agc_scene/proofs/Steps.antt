@@ -22,12 +22,6 @@ grown {X} xs k x old new whole is made rest =
     ap (λ (l : List X). l ++ drop (k + 1) xs) made ∙ append_assoc old (x ∷ []) (drop (k + 1) xs)
     ∙ ap (λ (l : List X). old ++ l) (sym (next_row xs k x is)) ∙ rest
 
-pub none_more : {X : Type 0} (xs : List X) (k : ℕ) (old whole : List X) → slice_get xs k ≡ None → old ++ drop k xs ≡ whole → old ++ drop (k + 1) xs ≡ whole
-none_more {X} xs k old whole is rest = elim (slice_get_cases xs k).1 [
-  | inl found ↦ absurd (let no : Some found.0 ≡ None = sym found.2 ∙ is in cc)
-  | inr past ↦ ap (λ (l : List X). old ++ l) (none_left xs (k + 1) (omega (arith, past.0)) ∙ sym (none_left xs k past.0)) ∙ rest
-]
-
 pub whole_is : {X : Type 0} (xs : List X) (k : ℕ) (found whole : List X) → length xs ≤ k → found ++ drop k xs ≡ whole → found ≡ whole
 whole_is {X} xs k found whole le rest = sym (append-nil found) ∙ ap (λ (l : List X). found ++ l) (sym (none_left xs k le)) ∙ rest
 

@@ -11,8 +11,12 @@ use Rattle.agc_plan.specs.declared.request.Request.{Request}
 use Rattle.agc_plan.specs.Pulses.{pulse_requests}
 use Rattle.agc_document.specs.Benches.{Benched}
 use Rattle.agc_session.specs.declared.source.Source.TheVariants.{Script, Worker}
-use Rattle.agc_session.specs.Pieces.{Piece, Walked, piece_requests, worker_pieces, device_pieces, pulse_asks, pulse_piece, bench_pieces, to_come, script_piece}
+use Rattle.agc_session.specs.Pieces.{Piece, Walked, worker_pieces, device_pieces, pulse_asks, pulse_piece, bench_pieces, to_come, script_piece}
 use Rattle.agc_session.specs.Runs.{bench_plan, bench_requests, device_requests}
+
+-- the requests of a piece
+abbrev pub piece_requests : Piece → List Request
+piece_requests piece = piece.requests
 
 -- before the first, all are to come
 pub at_first : (bench : Benched) (here : Piece) (s : List Request) (ws : List (List Request)) (ds : List (Line × ℕ)) (k r : List Action) → s ≡ bench.script → ws ≡ bench.workers → ds ≡ bench.devices → k ≡ bench.key → r ≡ bench.radar → to_come (record { script = s; workers = ws; devices = ds; key = k; radar = r; here = here; left = 0; begun = false; worker = 0; device = 0 }) ≡ bench_pieces bench

@@ -15,10 +15,6 @@ pub record Piece : Type 0 where
   pub source : Source
   pub requests : List Request
 
--- the requests of a piece
-abbrev pub piece_requests : Piece → List Request
-piece_requests piece = piece.requests
-
 -- the workers' pieces, from this number on
 abbrev pub worker_pieces : ℕ → List (List Request) → List Piece
 worker_pieces k [] = []

@@ -35,11 +35,6 @@ pub ended : (place distance : ℕ) (words : List ℕ) (found whole : List Waitin
 ended place distance words found whole none rest =
     sym (append-nil found) ∙ ap (λ (l : List Waiting). found ++ l) (sym (ends (9 - place) place distance words none)) ∙ rest
 
-pub nine : (place distance : ℕ) (words : List ℕ) (found whole : List Waiting) → 9 ≤ place → found ++ waits_from (9 - place) place distance words ≡ whole → found ≡ whole
-nine place distance words found whole past rest =
-    let left : 9 - place ≡ 0 = omega arith in
-    sym (append-nil found) ∙ ap (λ (n : ℕ). found ++ waits_from n place distance words) (sym left) ∙ rest
-
 -- one more was found
 pub one : (place distance : ℕ) (words : List ℕ) (found more whole : List Waiting) (next : ℕ) → place < 9 → at_in words place ≢ 0 → more ≡ found ++ wait_at place distance words ∷ [] → next ≡ distance + gap_of (lst1 words place) → found ++ waits_from (9 - place) place distance words ≡ whole → more ++ waits_from (9 - (place + 1)) (place + 1) next words ≡ whole
 one place distance words found more whole next within some made is rest =
