@@ -5,7 +5,7 @@
  *     node picture.mjs [--from N] [--to N] [--width N] [--eight] [FILE] > run.svg
  *
  * Without FILE it reads standard input. The same document makes the same bytes on each machine. What is
- * wrong with a document is on standard error, and the status is 2, as of `agc_watch check`. `tools/workbench`
+ * wrong with a document is on standard error, and the status is 1, as of `agc_watch check`. `tools/workbench`
  * joins this and what it imports into libagc/js/picture.mjs, which is `agc-picture` of the package.
  */
 import { start } from "../libagc/js/machine.js";
@@ -82,7 +82,7 @@ export function drawn(document, { from, to, width, isEight }) {
   const read = readBench(document);
   const bench = isEight ? { ...read, sets: 8 } : read;
   if (countOf(bench) > MOST_ASKED) {
-    throw new Wrong(`it asks for ${counted(countOf(bench), "request")}; a picture has at most ${counted(MOST_ASKED, "request")}`, 2);
+    throw new Wrong(`it asks for ${counted(countOf(bench), "request")}; a picture has at most ${counted(MOST_ASKED, "request")}`, 1);
   }
   const run = runOf(bench, requestsOf(bench), {}, Infinity);
   const title = visible(bench.title ?? `A run of ${counted(run.count, "request")}`);
@@ -134,6 +134,6 @@ if (await isProgram()) {
     process.stdout.write(await main(process.argv.slice(2)));
   } catch (fault) {
     process.stderr.write(`${/** @type {Error} */ (fault).message}\n`);
-    process.exitCode = /** @type {any} */ (fault).status ?? 2;
+    process.exitCode = /** @type {any} */ (fault).status ?? 1;
   }
 }

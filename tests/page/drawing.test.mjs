@@ -14,7 +14,7 @@ import { textWidth } from "../../web/drawing-text.js";
 import { budgetOf, workOf } from "../../web/drawing-work.js";
 import { drawn, moduleBytes } from "../../web/picture.mjs";
 import { Run } from "../../web/run.js";
-import { faultsOf } from "../../tools/browsing/marks.mjs";
+import { faultsOf } from "./marks.mjs";
 
 await start(await moduleBytes());
 
