@@ -63,7 +63,7 @@ def benches(program, seed, count):
         bench, text = documents.Bench(made), make.toml(made, dice)
         ran = subprocess.run([program, "serial"], input=text, capture_output=True, text=True, check=False)
         run = orders.Run(bench, bench.script)
-        if ran.stdout != run.text or len(run.served) < len(bench.script):
+        if ran.stdout != run.text or run.has_refused:
             sys.exit(f"inputs.py: agc and the plain model differ:\n{text}\n{ran.stdout}\n{run.text}\n{ran.stderr}")
         steps, scenes, moments = watched(bench, dice)
         lines = [*documents.caller_lines(bench, bench.script)]
