@@ -1,9 +1,8 @@
 use Rattle.std.proofs.Common.{sym, ◌∙◌, ap, length, arith}
 use Rattle.std.specs.List.{flat_map}
 use Rattle.agc_machine.specs.Machines.{after}
-use Rattle.agc_session.specs.Pieces.{piece_requests}
 use Rattle.agc_session.specs.Steps.{line_written}
-use Rattle.agc_session.proofs.Pieces.{pieces_ask, next_piece}
+use Rattle.agc_session.proofs.Pieces.{piece_requests, pieces_ask, next_piece}
 use Rattle.agc_session.proofs.Walks.{all_left, left_as, some_asked, walk_stopped, walk_done}
 use Rattle.agc_session.proofs.asking.ask_bench.Goals as goal
 

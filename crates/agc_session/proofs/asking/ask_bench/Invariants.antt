@@ -1,7 +1,8 @@
 use Rattle.std.proofs.Common.{length}
 use Rattle.std.specs.List.{flat_map}
 use Rattle.agc_machine.specs.Machines.{after}
-use Rattle.agc_session.specs.Pieces.{piece_requests, to_come}
+use Rattle.agc_session.specs.Pieces.{to_come}
+use Rattle.agc_session.proofs.Pieces.{piece_requests}
 use Rattle.agc_session.specs.Runs.{bench_requests}
 use Rattle.agc_session.specs.Steps.{line_written}
 use Rattle.agc_session.proofs.Walks.{IsLeft}
