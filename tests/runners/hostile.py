@@ -34,7 +34,9 @@ BENCHES = 300
 NO_MEMORY = (3, b"agc: no memory\n")
 NO_THREAD = (3, b"agc: no thread\n")
 INPUT = (4, b"agc: input\n")
-OUTPUT = (4, b"agc: output\n")
+# Why standard output can't be written.
+BAD, FAILED, FULL = (
+    b": Bad file descriptor (os error 9)", b": Input/output error (os error 5)", b": No space left on device (os error 28)")
 NOT_TEXT = (1, b"agc: not text\n")
 DONE = (0, b"")
 
@@ -112,6 +114,16 @@ def told(word, ran):
     name = f"{program_of(word)}: ".encode()
     line = b"agc: " + ran.stderr[len(name) :] if ran.stderr.startswith(name) else b"no name: " + ran.stderr
     return ran.returncode, line if ran.stderr else b""
+
+
+def unwritten(word, reason=b""):
+    """How a program ends that can't write for this reason, which agc doesn't tell."""
+    return 4, b"agc: output" + (reason if program_of(word) == "agc_watch" else b"") + b"\n"
+
+
+def cut_off(word):
+    """How a program ends whose output goes to a closed pipe, of which agc_watch says nothing."""
+    return (4, b"") if program_of(word) == "agc_watch" else unwritten(word)
 
 
 class Ended:
@@ -202,22 +214,22 @@ def writes(hostile):
         step = max(37, singly.writes // MOST_WRITES)
         for k in (*range(1, min(60, singly.writes)), *range(60, singly.writes, step), singly.writes):
             ended = hostile.run(word, text, most_written=1, fail_write=k)
-            hostile.expect(f"{word}, write {k}", ended.said == OUTPUT and whole.startswith(ended.text), ended)
+            hostile.expect(f"{word}, write {k}", ended.said == unwritten(word, FAILED) and whole.startswith(ended.text), ended)
         ended = hostile.run(word, text, most_written=0)
-        hostile.expect(f"{word}, writes that take nothing", ended.said == OUTPUT and not ended.text, ended)
+        hostile.expect(f"{word}, writes that take nothing", ended.said == unwritten(word) and not ended.text, ended)
 
 
 def ends(hostile):
     """Standard input and output that are closed, full, broken or no file: the status and line, and no signal."""
     for word, text, _ in words(hostile):
         with open("/dev/full", "wb") as full:
-            hostile.expect(f"{word} to a full device", said_by(hostile, word, text, stdout=full) == OUTPUT)
+            hostile.expect(f"{word} to a full device", said_by(hostile, word, text, stdout=full) == unwritten(word, FULL))
         reading, writing = os.pipe()
         os.close(reading)
-        hostile.expect(f"{word} to a broken pipe", said_by(hostile, word, text, stdout=writing) == OUTPUT)
+        hostile.expect(f"{word} to a broken pipe", said_by(hostile, word, text, stdout=writing) == cut_off(word))
         os.close(writing)
         closed = said_by(hostile, word, text, preexec_fn=lambda: os.close(1))
-        hostile.expect(f"{word} without an output", closed == OUTPUT)
+        hostile.expect(f"{word} without an output", closed == unwritten(word, BAD))
         folder = os.open("/", os.O_RDONLY)
         hostile.expect(f"{word} from a folder", said_by(hostile, word, None, stdin=folder) == INPUT)
         os.close(folder)
@@ -243,9 +255,9 @@ def texts(hostile):
         hostile.expect(f"{word}, one byte a write", singly.said == DONE and singly.writes == len(whole.text), singly)
         for k in range(1, singly.writes + 1):
             ended = hostile.run(word, b"", most_written=1, fail_write=k)
-            hostile.expect(f"{word}, write {k}", ended.said == OUTPUT and whole.text.startswith(ended.text), ended)
+            hostile.expect(f"{word}, write {k}", ended.said == unwritten(word, FAILED) and whole.text.startswith(ended.text), ended)
         closed = said_by(hostile, word, b"", preexec_fn=lambda: os.close(1))
-        hostile.expect(f"{word} without an output", closed == OUTPUT)
+        hostile.expect(f"{word} without an output", closed == unwritten(word, BAD))
         closed = said_by(hostile, word, None, stdin=subprocess.DEVNULL, preexec_fn=lambda: os.close(0))
         hostile.expect(f"{word} without an input", closed == DONE)
         print(f"hostile: {word}: {singly.writes} writes refused one at a time")

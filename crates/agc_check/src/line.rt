@@ -9,10 +9,14 @@ pub enum LineFault {
     Empty,
     /// The line ends with a carriage return.
     CarriageReturn,
+    /// The line has a tab.
+    Tab,
     /// A byte order mark comes before the line.
     ByteOrderMark,
     /// The line belongs to a bench.
     OfBench,
+    /// The first word of this kind is written in capitals.
+    Capitals(LineForm),
     /// No line begins with this word. This kind may be meant.
     Unknown(Option<LineForm>),
     /// The line has more words or fewer, or more than one space.
@@ -24,6 +28,10 @@ pub enum LineFault {
 const BYTE_ORDER_MARK: &str = "it begins with a byte order mark, which a script may not have";
 
 const OF_BENCH: &str = "this looks like a bench, not a script: use check without --script";
+
+const TAB: &str = "it has a tab; words are separated by single spaces";
+
+const CAPITALS: &str = "write \"{}\" in small letters";
 
 const MEANT: &str = "its first word is unknown; did you mean \"{}\"?";
 
@@ -52,10 +60,19 @@ pub(crate) fn fault_of(kinds: &[LineForm], text: &str) -> LineFault {
     if text.ends_with('\r') {
         return LineFault::CarriageReturn;
     }
+    if text.contains('\t') {
+        return LineFault::Tab;
+    }
     let (word, _rest) = text.split_once(' ').unwrap_or((text, ""));
-    match with_name(word, kinds) {
+    if let Some(kind) = with_name(word, kinds) {
+        return wrong_words(text, kind);
+    }
+    let is_small = |kind: &LineForm| {
+        kind.name().as_bytes().eq_ignore_ascii_case(word.as_bytes())
+    };
+    match kinds.iter().find(|kind| is_small(kind)) {
+        Some(kind) => LineFault::Capitals(*kind),
         None => LineFault::Unknown(meant_by(word, kinds)),
-        Some(kind) => wrong_words(text, kind),
     }
 }
 
@@ -74,8 +91,10 @@ impl LineFault {
         let (text, filling) = match self {
             LineFault::Empty => ("a line may not be empty", ""),
             LineFault::CarriageReturn => ("a line ends with LF alone, not with CR LF", ""),
+            LineFault::Tab => (TAB, ""),
             LineFault::ByteOrderMark => (BYTE_ORDER_MARK, ""),
             LineFault::OfBench => (OF_BENCH, ""),
+            LineFault::Capitals(kind) => (CAPITALS, kind.name()),
             LineFault::Unknown(None) => (NO_REQUEST, ""),
             LineFault::Unknown(Some(kind)) => (MEANT, kind.name()),
             LineFault::Form(kind) => (FORM, kind.form()),

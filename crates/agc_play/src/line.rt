@@ -8,6 +8,13 @@ use std::alloc::{AllocError, Global};
 /// The most ticks that one line can ask for.
 const MOST_TICKS: u32 = 1_000_000;
 
+/// Whether `save` may overwrite a file that this session hasn't written.
+#[derive(Clone, Copy, PartialEq, Eq)]
+pub(crate) enum Overwrite {
+    Never,
+    Always,
+}
+
 /// The command on a line.
 #[derive(Clone, Copy)]
 pub(crate) enum PlayCommand<'a> {
@@ -16,7 +23,7 @@ pub(crate) enum PlayCommand<'a> {
     Undo,
     Show,
     /// Write the bench so far to a file of this name.
-    Save(&'a str),
+    Save(&'a str, Overwrite),
     Help,
     Nothing,
 }
@@ -36,8 +43,9 @@ fn ticks_of(text: &str) -> PlayCommand<'_> {
 fn command_of(line: &str) -> PlayCommand<'_> {
     match line.split_once(' ').unwrap_or((line, "")) {
         ("tick", rest) => ticks_of(rest),
-        ("save", "") => PlayCommand::Nothing,
-        ("save", name) => PlayCommand::Save(name),
+        ("save" | "save!", "") => PlayCommand::Nothing,
+        ("save", name) => PlayCommand::Save(name, Overwrite::Never),
+        ("save!", name) => PlayCommand::Save(name, Overwrite::Always),
         _ => match line {
             "undo" => PlayCommand::Undo,
             "show" => PlayCommand::Show,
@@ -69,7 +77,7 @@ fn form_of(line: &str) -> Option<&'static str> {
     let (word, _rest) = line.split_once(' ').unwrap_or((line, ""));
     match word {
         "tick" => Some("a number of ticks is decimal, 1 to 1000000"),
-        "save" => Some("it has the form \"save NAME\""),
+        "save" | "save!" => Some("it has the form \"save NAME\" or \"save! NAME\""),
         "undo" => Some("undo stands alone"),
         "show" => Some("show stands alone"),
         "help" => Some("help stands alone"),

@@ -1,7 +1,7 @@
 //! The play: a line is read, and answered, before the next one is read.
 ghost use Rattle.std.specs.Prelude.{◌≡◌, ◌++◌, ◌∷◌, [], OnOk};
 
-use crate::line::{PlayCommand, parse_command, tell_line, tell_wrong};
+use crate::line::{Overwrite, PlayCommand, parse_command, tell_line, tell_wrong};
 use crate::player::{Effect, Player};
 use agc_document::{Bench, put_bench};
 use agc_machine::Refusal;
@@ -25,6 +25,7 @@ A line is a request, as in a script, or one of these:
     undo       takes back what the last line asked
     show       shows the state: jobs, areas, tasks, phases, FAILREG, the log
     save NAME  writes a file: a bench that asks all that was asked
+    save! NAME the same, over a file that is there already
     help, ?    shows this
     quit, q    ends, as exit and Ctrl-D do
 The requests:
@@ -84,15 +85,16 @@ fn requests_of(alloc: Global, bench: &Bench) -> Result<Vec<Request>, AllocError>
 }
 
 /// A play: where files are written, the bench that it began from, all that was asked, from the
-/// bench's own requests on, how many were asked before each line that asked for some, the machine,
-/// what is told next, after its rows, and how. Contracts see what was asked; the machine is what
-/// the bench's comes to by that.
+/// bench's own requests on, how many were asked before each line that asked for some, the names of
+/// the files that were saved, the machine, what is told next, after its rows, and how. Contracts
+/// see what was asked; the machine is what the bench's comes to by that.
 #[derive(Drop)]
 struct PlaySession<'a> {
     rt: &'a HostRuntime,
     bench: &'a Bench,
     requests: Vec<Request>,
     steps: Vec<usize>,
+    saved: Vec<String>,
     player: Player,
     buffer: Buffer,
     options: PlayOptions,
@@ -154,6 +156,7 @@ impl<'a> PlaySession<'a> {
             bench,
             requests,
             steps: Vec::new(alloc),
+            saved: Vec::new(alloc),
             player,
             buffer,
             options,
@@ -268,10 +271,35 @@ impl<'a> PlaySession<'a> {
         Ok(())
     }
 
-    /// Writes all that was asked to a file of this name, as a bench, and adds what came of that.
-    fn save(&mut self, name: &str) -> Result<(), RunFault> {
-        let (rt, count) = (self.rt, self.requests.len());
-        let text = bench_of(rt.alloc(), self.bench, self.requests.as_slice())?;
+    /// Whether a file of this name is there that wasn't saved here.
+    fn is_foreign(&self, name: &str) -> bool {
+        !self.saved.iter().any(|it| it.as_str() == name)
+            && fs::metadata(self.rt, name).is_ok_and(|it| it.is_file())
+    }
+
+    /// Writes a bench of all that was asked to a file of this name, and adds what came of that.
+    fn write_bench(&mut self, name: &str, text: &[u8]) -> Result<(), AllocError> {
+        if let Err(error) = fs::write(self.rt, name, text) {
+            let told = format!(in self.rt.alloc(); "{name}: not written: {error}\n")?;
+            self.buffer.text(told.as_str());
+            return Ok(());
+        }
+        let count = self.requests.len();
+        let ending = if count == 1 { "" } else { "s" };
+        let told = [Text(name), Number(count as u64), Text(ending)];
+        self.buffer.put("{}: a bench of {} request{}\n", &told);
+        self.saved.push(String::from_str(self.rt.alloc(), name)?)?;
+        Ok(())
+    }
+
+    /// Saves all that was asked in a file of this name, as a bench, and adds what came of that.
+    fn save(&mut self, name: &str, overwrite: Overwrite) -> Result<(), RunFault> {
+        if overwrite == Overwrite::Never && self.is_foreign(name) {
+            let words = "{}: not written: the file is there already; save! {} writes over it\n";
+            self.buffer.put(words, &[Text(name), Text(name)]);
+            return Ok(());
+        }
+        let text = bench_of(self.rt.alloc(), self.bench, self.requests.as_slice())?;
         if text.len() > MOST_BYTES {
             let sizes = [
                 Text(name),
@@ -280,15 +308,9 @@ impl<'a> PlaySession<'a> {
             ];
             let words = "{}: not written: it would have {} bytes, and agc reads {}\n";
             self.buffer.put(words, &sizes);
-        } else if let Err(error) = fs::write(rt, name, text.as_slice()) {
-            let told = format!(in rt.alloc(); "{name}: not written: {error}\n")?;
-            self.buffer.text(told.as_str());
-        } else {
-            let ending = if count == 1 { "" } else { "s" };
-            let told = [Text(name), Number(count as u64), Text(ending)];
-            self.buffer.put("{}: a bench of {} request{}\n", &told);
+            return Ok(());
         }
-        Ok(())
+        Ok(self.write_bench(name, text.as_slice())?)
     }
 
     /// Does what a line asks for, of this number.
@@ -297,7 +319,7 @@ impl<'a> PlaySession<'a> {
             PlayCommand::Request(request, times) => return self.ask_times(&request, times, writer),
             PlayCommand::Undo => return self.undo(),
             PlayCommand::Show => self.put_state(),
-            PlayCommand::Save(name) => return self.save(name),
+            PlayCommand::Save(name, overwrite) => return self.save(name, overwrite),
             PlayCommand::Help => self.buffer.text(HELP),
             PlayCommand::Nothing => tell_wrong(self.rt.alloc(), number, line, &mut self.buffer)?,
         }

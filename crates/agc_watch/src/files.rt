@@ -19,7 +19,7 @@ pub(crate) fn read_file(rt: &HostRuntime, name: &str) -> io::Result<Vec<u8>> {
     Ok(bytes)
 }
 
-/// Stops because a file can't be read, in the system's words.
+/// Stops because a file can't be read or written, in the system's words.
 pub(crate) fn unread(alloc: Global, name: &str, error: &io::Error) -> Stop {
     let mut told = String::new(alloc);
     if error.kind() != ErrorKind::OutOfMemory && write!(told, "{name}: {error}").is_ok() {
@@ -27,6 +27,14 @@ pub(crate) fn unread(alloc: Global, name: &str, error: &io::Error) -> Stop {
     } else {
         Stop::ProgramFault(ProgramFault::NoMemory)
     }
+}
+
+/// Stops because standard output can't be written, in the system's words; a closed pipe needs none.
+pub(crate) fn unwritten(alloc: Global, error: &io::Error) -> Stop {
+    if error.kind() == ErrorKind::BrokenPipe {
+        return Stop::ClosedPipe;
+    }
+    unread(alloc, "output", error)
 }
 
 /// Reads an input whole.

@@ -1,17 +1,39 @@
 //! The program: it reads its words and its input, and does the work.
-use crate::files::text_of;
+use crate::files::{text_of, unwritten};
 use crate::progress::ProgressReporter;
 use crate::stops::{Stop, exit_early, join_words};
 use crate::words::{Invocation, parse_words};
 use crate::work::work;
 use agc_check::NamedText;
 use agc_play::PlayOptions;
-use agc_program::{buffered_output, flush_output, given_words};
-use std::io::{BufWriter, Printer};
+use agc_program::{ProgramFault, flush_output, given_words};
+use agc_session::RunFault;
+use std::alloc::Global;
+use std::io;
+use std::io::{BufWriter, Printer, Write};
 use std::process::ExitCode;
 
+/// Standard output, and why the last write failed, if one did.
+#[derive(Drop)]
+pub(crate) struct StandardWriter<'a> {
+    printer: Printer<'a, HostRuntime>,
+    fault: Option<io::Error>,
+}
+
+impl Write for StandardWriter<'_> {
+    fn write(&mut self, bytes: &[u8]) -> io::Result<usize> {
+        let written = self.printer.write(bytes);
+        self.fault = written.err();
+        written
+    }
+
+    fn flush(&mut self) -> io::Result<()> {
+        self.printer.flush()
+    }
+}
+
 /// Standard output, as the program writes to it: through a buffer.
-pub(crate) type StandardOutput<'a> = BufWriter<Printer<'a, HostRuntime>>;
+pub(crate) type StandardOutput<'a> = BufWriter<StandardWriter<'a>>;
 
 /// The things that every command needs: the process, the progress report, and standard output.
 #[derive(Drop)]
@@ -21,8 +43,40 @@ pub(crate) struct Console<'a> {
     pub(crate) output: StandardOutput<'a>,
 }
 
-/// Does a command's work on its input, and writes through a buffer that is flushed at the end. Returns
-/// the exit status.
+/// Standard output, through a buffer that must be flushed.
+fn standard_output(rt: &HostRuntime) -> Result<StandardOutput<'_>, Stop> {
+    let writer = StandardWriter {
+        printer: io::writer(rt),
+        fault: None,
+    };
+    BufWriter::new(rt.alloc(), writer).map_err(|_| Stop::ProgramFault(ProgramFault::NoMemory))
+}
+
+/// Does a command's work on its input, and flushes what it wrote. Returns the exit status.
+fn work_and_flush(
+    console: &mut Console<'_>,
+    asked: &Invocation<'_>,
+    rules: PlayOptions,
+    input: NamedText<'_>,
+) -> Result<u8, Stop> {
+    let status = work(console, asked, rules, input)?;
+    flush_output(&mut console.output)?;
+    Ok(status)
+}
+
+/// The same end, and of a failed write the reason.
+fn with_reason(alloc: Global, output: &StandardOutput<'_>, stop: Stop) -> Stop {
+    match (stop, output.get_ref().fault) {
+        (
+            Stop::ProgramFault(ProgramFault::Output | ProgramFault::Run(RunFault::Output)),
+            Some(error),
+        ) => unwritten(alloc, &error),
+        (stop, _) => stop,
+    }
+}
+
+/// Does a command's work on its input, through a buffer for what it writes. Returns the exit
+/// status.
 fn work_buffered(
     rt: &HostRuntime,
     asked: &Invocation<'_>,
@@ -32,11 +86,12 @@ fn work_buffered(
     let mut console = Console {
         rt,
         progress: ProgressReporter::new(rt, asked.subcommand.work_unit(), asked.has_progress),
-        output: buffered_output(rt)?,
+        output: standard_output(rt)?,
     };
-    let status = work(&mut console, asked, rules, input)?;
-    flush_output(&mut console.output)?;
-    Ok(status)
+    match work_and_flush(&mut console, asked, rules, input) {
+        Ok(status) => Ok(status),
+        Err(stop) => Err(with_reason(rt.alloc(), &console.output, stop)),
+    }
 }
 
 /// Does the work for these words, of which the first is the program's own name. Returns the exit

@@ -3,6 +3,7 @@ ghost use Rattle.std.specs.Prelude.{◌≡◌};
 ghost use Rattle.agc_watch.specs.declared.stops.Stop.TheVariants as stop;
 ghost use Rattle.agc_program.specs.declared.fault.ProgramFault.TheVariants as fault;
 
+use crate::files::unwritten;
 use agc_check::add;
 use agc_program::{Program, ProgramFault, exit_with};
 use agc_session::RunFault;
@@ -29,6 +30,8 @@ pub(crate) enum Stop {
     ProgramFault(ProgramFault),
     /// The input is refused for the findings in these lines.
     Findings(String),
+    /// Nobody reads what is written any more.
+    ClosedPipe,
     /// The bench that was written has this many bytes, more than `agc` takes.
     TooLong(u64),
     /// The words ask for the help or the version, or they are wrong, or don't suit the document;
@@ -82,7 +85,7 @@ fn exit_with_help(rt: &HostRuntime, text: &Error) -> ExitCode {
     match text.print(rt) {
         Ok(()) if text.use_stderr() => ExitCode::from(2),
         Ok(()) => ExitCode::SUCCESS,
-        Err(_failed) => exit_with(rt, PROGRAM, Err(ProgramFault::Output)),
+        Err(error) => exit_early(rt, &unwritten(rt.alloc(), &error)),
     }
 }
 
@@ -110,6 +113,7 @@ pub(crate) fn exit_early(rt: &HostRuntime, stop: &Stop) -> ExitCode {
     match stop {
         Stop::ProgramFault(fault) => exit_with(rt, PROGRAM, Err(*fault)),
         Stop::Findings(findings) => exit_with_findings(rt, findings.as_str()),
+        Stop::ClosedPipe => ExitCode::from(4),
         Stop::TooLong(bytes) => exit_too_long(rt, *bytes),
         Stop::Words(text) => exit_with_help(rt, text),
         Stop::Message(status, told) => exit_with_message(rt, *status, told.as_str()),
