@@ -197,10 +197,11 @@ export function nameOfRestart(line) {
 export function orderOf({ worker, device }) {
   const names = [...worker.map((_, k) => `worker ${k + 1}`),
     ...device.map(({ line }, k) => `device ${k + 1} (${line})`)];
-  if (names.length < 2) return "";
   const [first, ...others] = names;
-  return `The threads may take turns in many orders. This is only one of them: first all requests `
-    + `of ${first}, ${others.map((it) => `then all of ${it}`).join(", ")}.`;
+  const once = worker.some((it) => it.repeat) || device.some((it) => it.pulses === undefined)
+    ? "Workers that repeat and devices without pulses are run once here." : "";
+  return others.length === 0 ? once : `The threads may take turns in many orders. This is only one of them: first all requests `
+    + `of ${first}, ${others.map((it) => `then all of ${it}`).join(", ")}. ${once}`.trim();
 }
 
 /** Why the phase words that were found as power came back can't be trusted. @param {string[]} power @returns {Piece[][]} */
@@ -370,6 +371,32 @@ export function accountOf(run, shown, names, given = { about: "", count: 0, isHi
   const quiet = shown.kind === Kind.TICKED ? "A centisecond passes." : "Done.";
   if (lines.length === 0) lines.push([quiet]);
   return { heading: "What happens", lines, isAlarm: false };
+}
+
+/** Names of jobs in a sentence, with what they do: `two SERVICERs and display wait`. @param {string[]} names @param {string} what */
+function clauseOf(names, what) {
+  const told = [...new Set(names)].map((name) => {
+    const count = names.filter((it) => it === name).length;
+    return count === 1 ? name : `${count} ${name}s`;
+  });
+  const all = told.length < 2 ? told.join() : `${told.slice(0, -1).join(", ")} and ${told.at(-1)}`;
+  return names.length === 0 ? [] : [`${all} ${what}${names.length === 1 ? "s" : ""}`];
+}
+
+/** How things stand after a row: who runs, waits and sleeps, for how many more there is room, and what is due next. @param {Shown} shown @param {Names} names */
+export function standingOf({ scene, jobsFrom }, names) {
+  const { sets, areas, tasks, running } = scene;
+  const jobs = sets.flatMap((job, k) => (job === null ? [] : [{ ...job, name: names.job(jobsFrom[k]) ?? `job ${job.number}` }]));
+  const namesOf = (/** @type {boolean} */ asleep) => jobs.filter((it) => it.number !== running && it.asleep === asleep).map((it) => it.name);
+  const runner = jobs.find((it) => it.number === running);
+  const clauses = [runner === undefined ? "No job runs" : `${runner.name} runs`, ...clauseOf(namesOf(false), "wait"), ...clauseOf(namesOf(true), "sleep")];
+  const free = sets.length - jobs.length;
+  const room = free === 0 ? "No core set is free: with one more job alarm 1202 comes."
+    : !areas.includes(0) ? "All five VAC areas are owned: with one more job that needs one alarm 1201 comes." : `There is room for ${counted(free, "more job")}.`;
+  const [next] = tasks;
+  const due = next === undefined ? "" : ` ${names.task(next) ?? `The task ${octal(next.at, 5)}`} is due in ${seconds(next.left)}.`;
+  const told = clauses.join(", ");
+  return `${told[0].toUpperCase()}${told.slice(1)}. ${room}${due}`;
 }
 
 /** A time of a mission, in hours, minutes and seconds. @param {number} time */

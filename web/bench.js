@@ -12,8 +12,8 @@
  *   until?: number }} StealRow
  * @typedef {{ title?: string, sets?: number, limit: number, allowance: bigint, attends?: number,
  *   key: string[], radar: string[], power?: string[], script: string[], task: TaskRow[],
- *   phase: PhaseRow[], worker: { script: string[] }[],
- *   device: { line: string, pulses: number }[], seconds?: number, seed?: number,
+ *   phase: PhaseRow[], worker: { script: string[], repeat?: boolean }[],
+ *   device: { line: string, pulses?: number }[], seconds?: number, seed?: number,
  *   steal: number | StealRow[],
  *   job: JobRow[], event: EventRow[] }} Bench
  */
@@ -36,13 +36,15 @@ function nameFirst({ name, ...rest }) {
 }
 
 const levels = Object.fromEntries(Object.entries(KEYS).map(([level, it]) => [level, nameFirst(it)]));
-const { scenario, job } = levels;
+const { scenario, job, device } = levels;
 
-/** The keys of each kind of table, and of three the values that only their readers know. @type {Record<string, Record<string, Key>>} */
+/** The keys of each kind of table, and of three the values that only their readers know; callers may never stop, as for `agc_watch`. @type {Record<string, Record<string, Key>>} */
 export const LEVELS = {
   ...levels,
   scenario: { ...scenario, steal: { ...scenario.steal, kind: "steal" } },
   job: { ...job, cost: { ...job.cost, kind: "cost" }, then: { ...job.then, form: "then" } },
+  worker: levels.exploredWorker,
+  device: { ...device, pulses: { ...device.pulses, required: false } },
 };
 
 /** What is wrong with a text of this form; nothing where it is one. @param {string} form @param {string} given @returns {string | null} */
@@ -148,6 +150,7 @@ function valueOf(given, row, place) {
       return typeof given === "bigint" ? integerOf(given, row, place)
         : tablesOf(given, { ...row, form: "steal" }, place);
     case "cost": return costOf(given, place);
+    case "flag": return typeof given === "boolean" ? given : place.refuse("expected true or false");
     default: return textsOf(given, row, place);
   }
 }
@@ -268,13 +271,13 @@ export function readBench(document) {
   return bench;
 }
 
-/** Each request of a bench, in the order of `serial`, and who asks for it. @param {Bench} bench @returns {Generator<[string, string]>} */
+/** Each request of a bench, in the order of `serial`, and who asks for it: those of callers that never stop once. @param {Bench} bench @returns {Generator<[string, string]>} */
 export function* requestsOf(bench) {
   for (const line of bench.script) yield [line, "the script"];
   for (const [k, { script }] of bench.worker.entries()) {
     for (const line of script) yield [line, `worker ${k + 1}`];
   }
-  for (const [k, { line, pulses }] of bench.device.entries()) {
+  for (const [k, { line, pulses = 1 }] of bench.device.entries()) {
     const lines = pulseOf(line, bench);
     for (let n = 0; n < pulses && lines.length > 0; n++) {
       for (const one of lines) yield [one, `device ${k + 1}, ${line}`];
@@ -285,7 +288,7 @@ export function* requestsOf(bench) {
 /** How many requests a bench asks for. @param {Bench} bench */
 export function countOf(bench) {
   const { script, worker, device } = bench;
-  const pulses = device.map((it) => it.pulses * pulseOf(it.line, bench).length);
+  const pulses = device.map((it) => (it.pulses ?? 1) * pulseOf(it.line, bench).length);
   return [script.length, ...worker.map((it) => it.script.length), ...pulses]
     .reduce((sum, it) => sum + it, 0);
 }
@@ -318,7 +321,7 @@ function inlineText(table) {
 
 /** A value as a document has it. @param {any} value @returns {string} */
 function valueText(value) {
-  if (typeof value === "number" || typeof value === "bigint") return String(value);
+  if (["number", "bigint", "boolean"].includes(typeof value)) return String(value);
   if (typeof value === "string") return quoted(value);
   if (!Array.isArray(value)) return inlineText(value);
   if (value.length > 0 && typeof value[0] === "object") {

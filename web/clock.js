@@ -127,6 +127,6 @@ export function runWith(old, from, given, until) {
 function sinceThen(run, now, given) {
   if (given.steal === undefined || now === 0) return given;
   const end = (run.bench.seconds ?? LONGEST) * 100;
-  const last = { from: now, to: end, percent: given.steal };
-  return now >= end ? {} : { steal: stolenSince(run.bench.steal, now, last) };
+  const next = typeof given.steal === "number" ? [{ from: now, to: end, percent: given.steal }] : given.steal;
+  return now >= end ? {} : { steal: stolenSince(run.bench.steal, now, next) };
 }

@@ -38,10 +38,16 @@ export function assign(node, given) {
   for (const [name, value] of Object.entries(given)) if (node[name] !== value) node[name] = value;
 }
 
+/** A document's name becomes a link to it, as it leads there from share/ of a clone. @param {string} text @returns {(Node | string)[]} */
+function withLinks(text) {
+  const title = "In a clone of the repository; a copy of this page alone doesn't have it";
+  return text.split(/(docs\/[A-Za-z/]+\.md)/).map((it, k) => (k % 2 === 1 ? make("a", { href: `../${it}`, title }, it) : it));
+}
+
 /** The parts of a text: code is between backquotes, and what is emphasized, between asterisks. @param {string} text @returns {(Node | string)[]} */
 export function withCode(text) {
   return text.split("`").flatMap((it, k) => (k % 2 === 1 ? [make("code", {}, it)]
-    : it.split(/\*([^*]+)\*/).map((one, n) => (n % 2 === 1 ? make("em", {}, one) : one))));
+    : it.split(/\*([^*]+)\*/).flatMap((one, n) => (n % 2 === 1 ? [make("em", {}, one)] : withLinks(one)))));
 }
 
 /** Gives an element just these children. @param {string | HTMLElement} where @param {(Node | string)[]} children */

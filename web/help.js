@@ -1,5 +1,5 @@
 /** What the help says. */
-import { make } from "./dom.js";
+import { make, withCode } from "./dom.js";
 import { MEANINGS, PARTS, REQUESTS, formOf } from "./words.js";
 
 const KEYS = [
@@ -36,6 +36,8 @@ export function help() {
     make("p", {}, "This page runs the proved job tables of the Apollo Guidance Computer: the "
       + "Executive's jobs, the Waitlist's tasks and the phases of the restart. Type a request, or "
       + "open an example, and step through what happens."),
+    make("p", { id: "read-on" }, ...withCode("To read on: docs/LANDING.md tells how a computer runs out of room, by examples, and "
+      + "docs/teaching/README.md has a lesson of 45 minutes with this page.")),
     make("p", {}, "Each request is a row. If you type a request at an earlier row, the run goes on "
       + "from there, and the rows that came after it are kept as a branch. A box with a marked "
       + "corner has changed since the row before. A job has the colour of its name, or of the address "

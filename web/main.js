@@ -1,27 +1,23 @@
 /** The workbench: the state, the views that draw it, and the keys and buttons that act on it. */
 import { start } from "../libagc/js/machine.js";
-import { accountOf } from "./account.js";
 import { build } from "./build.js";
 import { ACTIONS, firstState, settled } from "./actions.js";
 import { besideText, account, isTourSeen, question, tour } from "./story.js";
 import { fillOn } from "./clock.js";
 import { dialogs, hearDialog } from "./dialogs.js";
 import { assign, button, by, fill, make } from "./dom.js";
-import { summaryOf } from "./chart.js";
 import { editor, hearEditor } from "./editor.js";
-import { EXERCISES } from "./fields.js";
 import * as files from "./files.js";
 import { asked, makeCommon } from "./forms.js";
 import { fillSpeeds, head, speedNow } from "./head.js";
 import { jobs } from "./job-table.js";
 import { parting } from "./history.js";
 import { fromAddress, hearAddress, keepFrom, keeping, restore } from "./keep.js";
-import { drawPrinted, list, makeList, printQuestion } from "./list.js";
-import { isSaved } from "./saving.js";
+import { list, makeList } from "./list.js";
+import { print } from "./paper.js";
 import { whatIf } from "./sliders.js";
-import { chart, hearChart, pictureSeen } from "./stage.js";
-import { paint } from "./drawing-canvas.js";
-import { act, begin, differ, drawAgain, isAction, isHidden, namesOf, sceneAfter, set, state } from "./state.js";
+import { chart, hearChart } from "./stage.js";
+import { act, begin, differ, drawAgain, isAction, isHidden, sceneAfter, set, state } from "./state.js";
 import { drawWords, makeBoxes, tables } from "./tables.js";
 import { hearTouch, touch } from "./touch.js";
 import { Prompt, completions } from "./typing.js";
@@ -126,22 +122,6 @@ function branches(now, before) {
     button("Show it", () => act("branch", k)), " ", button("Compare", () => act("compare", it)))));
 }
 
-/** What is printed: a run as a table, or an exercise whose answer is hidden as it is asked. */
-function printed() {
-  const now = state();
-  const { run, count } = now;
-  if (isHidden(now)) {
-    printQuestion(run.source.question, run.source.document, (EXERCISES[run.source.exercise]?.fields ?? []).map((it) => it.label));
-    return;
-  }
-  const { whole, bench } = isSaved(now);
-  const plan = (run.bench.seconds === undefined ? bench : whole).trim();
-  drawPrinted(run, count, namesOf(run), [run.title, `${summaryOf(run, count)} ${run.about}`, plan], (shown) =>
-    accountOf(run, shown, namesOf(run)).lines.map((line) => line.map((it) => (typeof it === "string" ? it : it.text)).join("")).join("\n"));
-  assign(by("printed-chart"), { hidden: count === 0 });
-  if (count > 0) paint(by("printed-chart"), pictureSeen(now));
-}
-
 /** A button does what it is called. */
 function hear() {
   document.addEventListener("click", (event) => {
@@ -153,7 +133,7 @@ function hear() {
   by("here").addEventListener("change", () => act("here", by("here").checked));
   by("words-box").addEventListener("toggle", () => drawWords(state()));
   window.addEventListener("resize", () => drawAgain());
-  window.addEventListener("beforeprint", printed);
+  window.addEventListener("beforeprint", () => print(state()));
   for (const it of ["(prefers-color-scheme: dark)", "(forced-colors: active)"]) matchMedia(it).addEventListener("change", () => drawAgain());
   // (what is scrolled to stands below the bar, however high that is)
   const bar = /** @type {HTMLElement} */ (document.querySelector(".bar"));

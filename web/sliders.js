@@ -5,6 +5,7 @@
  */
 import { isWhole } from "./actions.js";
 import { outcomeOf } from "./chart.js";
+import { AGAIN } from "./jobs.js";
 import { assign, attribute, by, fill, make, set } from "./dom.js";
 import { act, differ, isHidden } from "./state.js";
 import { partsOf } from "./stolen.js";
@@ -25,14 +26,12 @@ const MOST_PERIODS = 8;
 /** What the sliders are about. */
 const WHAT = {
   stolen: "What part of the computing time is taken away from the jobs",
+  profile: "What part of the computing time is taken away from the jobs at most: all of the document's profile is scaled to it",
   cost: "How much computing time each such job needs before it ends",
   seed: "With which number lots begin, by which jobs cost more or less",
   period: "After how long it comes again",
   sets: "How many jobs can be alive at once",
 };
-
-/** A line that lists a task once more, from the action of the task itself. */
-const AGAIN = /^list ([0-9]+) ([0-7]{5}) ([0-7]{5})$/;
 
 /**
  * How often tasks come that list themselves again, and events that have a period.
@@ -70,19 +69,36 @@ function toldApart(numbers) {
   return named.map((it, k) => (isTwice(named, it) ? { ...it, name: `${it.name}, ${k + 1}` } : it));
 }
 
-/** @param {import("./bench.js").Bench} bench @returns {SliderNumber[]} */
-function numbersOf(bench) {
-  const { seed, steal, job } = bench;
-  const now = typeof steal === "number" ? steal : partsOf(steal).once.at(-1)?.percent ?? 0;
-  const stolen = { name: "Stolen time", own: "%", value: now, min: 0, max: 100, unit: "%", what: WHAT.stolen,
-    given: (/** @type {number} */ value) => ({ steal: value }) };
-  const costs = job.slice(0, MOST_COSTS).flatMap((it, k) => (typeof it.cost !== "number" ? [] : [{
+/** The most that rows of stolen time take which come once. @param {import("./bench.js").StealRow[]} rows */
+const mostOf = (rows) => Math.max(0, ...partsOf(rows).once.map((it) => it.percent));
+
+/** Stolen time: a percentage; or, of a document that has a profile of it, all of that, by its greatest one, and beats stay. @param {Run} run @returns {SliderNumber} */
+function stolenOf({ bench: { steal, seconds: length = 0 }, given: { steal: profile } }) {
+  const stolen = { name: "Stolen time", own: "%", min: 0, max: 100, unit: "%", what: WHAT.stolen };
+  if (typeof profile === "number") {
+    const value = typeof steal === "number" ? steal : partsOf(steal).once.at(-1)?.percent ?? 0;
+    return { ...stolen, value, given: (percent) => ({ steal: percent }) };
+  }
+  const most = mostOf(profile);
+  const { once, beats } = partsOf(profile);
+  const scaled = (/** @type {number} */ value) => (most === 0 ? [...beats, { from: 0, to: 100 * length, percent: value }]
+    : profile.map((it) => (it.every === undefined ? { ...it, percent: Math.round((it.percent * value) / most) } : it)));
+  return { ...stolen, ...(once.length > 1 ? { unit: "% at most", what: WHAT.profile } : {}), value: typeof steal === "number" ? steal : mostOf(steal),
+    given: (value) => ({ steal: scaled(value) }) };
+}
+
+/** The numbers of a run that can be moved: not those of jobs that cost next to nothing, as those that just wait. @param {Run} run @returns {SliderNumber[]} */
+export function numbersOf(run) {
+  const { bench, given } = run;
+  const { seed, job } = bench;
+  const stolen = stolenOf(run);
+  const costs = job.slice(0, MOST_COSTS).flatMap((it, k) => (typeof it.cost !== "number" || given.job[k]?.cost === 1 ? [] : [{
     ...{ name: visible(it.name ?? it.at), own: it.at, value: it.cost, min: 1 },
     ...{ max: Math.max(400, 2 * it.cost), unit: "cs", what: WHAT.cost },
     given: (/** @type {number} */ cost) =>
       ({ job: job.map((one, n) => (n === k ? { ...one, cost } : one)) }),
   }]));
-  const lots = seed === undefined || costs.length === job.length ? [] : [{
+  const lots = seed === undefined || job.every(({ cost }) => typeof cost === "number") ? [] : [{
     ...{ name: "Seed", own: "lots", value: seed, min: 1, max: Math.max(100, seed), unit: "", what: WHAT.seed },
     given: (/** @type {number} */ value) => ({ seed: value }),
   }];
@@ -172,7 +188,7 @@ function ask(name) {
 export function whatIf(now, before) {
   const { run, count, at, before: older } = now;
   if (differ(now, before, "run")) {
-    const numbers = numbersOf(run.bench);
+    const numbers = numbersOf(run);
     const isSame = numbers.length === rows.size && numbers.every((it) => rows.has(it.name));
     if (!isSame) {
       rows.clear();
@@ -214,7 +230,7 @@ function stealText(steal) {
   }
   const told = beats.map((it) => `${it.percent} for ${it.to - it.from} of each ${it.every} cs`);
   if (beats.length > 0 && rows.length === 0) return told.join(", ");
-  return [...told, historyOf(rows)].join(", else ");
+  return [...new Set(told), historyOf(rows)].join(", else ");
 }
 
 /**

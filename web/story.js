@@ -1,5 +1,5 @@
 /** The story beside the chart: the tour, what is told of the row, what may be tried, and an exercise's question. */
-import { accountOf, nameOfRestart, orderOf } from "./account.js";
+import { accountOf, nameOfRestart, orderOf, standingOf } from "./account.js";
 import { becauseOf } from "./because.js";
 import { outcomeOf } from "./chart.js";
 import { assign, button, by, fill, make, set, withCode } from "./dom.js";
@@ -151,7 +151,8 @@ export function account(now, before) {
   buttons("try", triesOf(now, shown));
   assign(by("try"), { hidden: by("try").childElementCount === 0 });
   const isAsked = shown.who !== "nobody" && !shown.isAfter;
-  const all = [...lines, ...(isAsked ? [[`Asked by ${shown.who}.`]] : [])];
+  const isPlain = shown.row > 0 && !isAlarm && !shown.isAfter && !isHidden(now);
+  const all = [...lines, ...(isAsked ? [[`Asked by ${shown.who}.`]] : []), ...(isPlain ? [[standingOf(shown, names)]] : [])];
   const key = JSON.stringify(all);
   if (key === drawn) return;
   drawn = key;

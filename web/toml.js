@@ -3,7 +3,7 @@
  * and tables in arrays. What else TOML allows is refused as unknown here; what TOML refuses is
  * refused too. An integer is a BigInt, so that none is rounded.
  *
- * @typedef {string | bigint | any[] | Table} Value
+ * @typedef {string | bigint | boolean | any[] | Table} Value
  * @typedef {{ keys: Map<string, Value>, line: number, lines: Map<string, number> }} Table
  */
 
@@ -199,7 +199,8 @@ class Reader {
     if (this.takes("'")) return this.literal();
     if (this.takes("[")) return this.array(depth);
     if (this.takes("{")) return this.inline(depth);
-    return this.integer();
+    const flag = this.match(/(true|false)(?![0-9A-Za-z_.:+-])/y);
+    return flag === null ? this.integer() : flag[0] === "true";
   }
 
   /** @param {number} depth */

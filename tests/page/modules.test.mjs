@@ -2,7 +2,7 @@
 import assert from "node:assert/strict";
 import { test } from "node:test";
 import { Clock, start } from "../../libagc/js/machine.js";
-import { Names, accountOf } from "../../web/account.js";
+import { Names, accountOf, orderOf, standingOf } from "../../web/account.js";
 import { follow, readAddress, readRecipe } from "../../web/address.js";
 import { countOf, readBench, requestsOf, textFault, writeBench } from "../../web/bench.js";
 import { summaryOf } from "../../web/chart.js";
@@ -12,7 +12,7 @@ import { firstSentence, packed, textOfData, withoutQuestion } from "../../web/fi
 import { documentOfScript, forgiven } from "../../web/forgive.js";
 import { NOTHING_DONE, exchanged, goingOn, parting } from "../../web/history.js";
 import { Run, afterOf } from "../../web/run.js";
-import { differencesOf } from "../../web/sliders.js";
+import { differencesOf, numbersOf } from "../../web/sliders.js";
 import { stolenAt, stolenParts, stolenSince } from "../../web/stolen.js";
 import { Scale } from "../../web/drawing-scale.js";
 import { moduleBytes } from "../../web/picture.mjs";
@@ -64,6 +64,19 @@ test("requests are counted", () => {
   }
 });
 
+/** Callers that never stop ask once. */
+test("callers that never stop are taken", () => {
+  const text = 'key = "rouse 02000"\n\n[[worker]]\nscript = ["novac 20 02000 00005", "end"]\nrepeat = true\n\n[[device]]\nline = "key"\n';
+  const bench = readBench(text);
+  expect("what it asks for", [...requestsOf(bench)], [["novac 20 02000 00005", "worker 1"], ["end", "worker 1"], ["rouse 02000", "device 1, key"]]);
+  expect("how many", countOf(bench), 3);
+  expect("it is written", writeBench(bench), text);
+  expect("it is said", orderOf(bench).endsWith("then all of device 1 (key). Workers that repeat and devices without pulses are run once here."), true);
+  expect("of one", orderOf(readBench('[[worker]]\nscript = []\nrepeat = true\n')), "Workers that repeat and devices without pulses are run once here.");
+  expect("of one that stops", orderOf(readBench('[[worker]]\nscript = []\nrepeat = false\n')), "");
+  assert.throws(() => readBench('[[worker]]\nscript = []\nrepeat = 1\n'), /worker 1, repeat: expected true or false/);
+});
+
 test("numbers have their ends", () => {
   for (const [line, wanted] of /** @type {[string, string | null][]} */ ([["phase 1 127", null], ["phase 1 128", "a phase is decimal, 0 to 127"],
     ["phase 1 00", "a phase is decimal, 0 to 127"], ["phase 7 1", "a group is 1 to 6"], ["list 16250 02000 00005", null],
@@ -86,12 +99,16 @@ test("stolen time holds", () => {
     expect(`stolen at ${time}`, stolenAt(steal, time), wanted);
   }
   const last = { from: 100, to: 900, percent: 7 };
-  expect("a percentage, and another", stolenSince(30, 100, last), [{ from: 0, to: 100, percent: 30 }, last]);
+  expect("a percentage, and another", stolenSince(30, 100, [last]), [{ from: 0, to: 100, percent: 30 }, last]);
   const rows = [{ from: 0, to: 100, percent: 50 }, { from: 100, to: 200, percent: 10 }];
-  expect("a row that would begin then", stolenSince(rows, 100, last), [rows[0], last]);
-  expect("a row that is cut", stolenSince(rows, 70, last), [{ ...rows[0], to: 70 }, last]);
-  expect("a beat", stolenSince([{ ...beat, until: undefined }], 100, last), [last, { ...beat, until: 99 }]);
-  expect("a beat that would come then", stolenSince([{ ...beat, until: 160 }], 60, last), [last, { ...beat, until: 59 }]);
+  expect("a row that would begin then", stolenSince(rows, 100, [last]), [rows[0], last]);
+  expect("a row that is cut", stolenSince(rows, 70, [last]), [{ ...rows[0], to: 70 }, last]);
+  expect("a beat", stolenSince([{ ...beat, until: undefined }], 100, [last]), [last, { ...beat, until: 99 }]);
+  expect("a beat that would come then", stolenSince([{ ...beat, until: 160 }], 60, [last]), [last, { ...beat, until: 59 }]);
+  expect("rows that begin before then, and after", stolenSince(30, 100, [{ from: 0, to: 90, percent: 1 }, { from: 90, to: 130, percent: 2 }, { from: 130, to: 900, percent: 3 }]),
+    [{ from: 0, to: 100, percent: 30 }, { from: 100, to: 130, percent: 2 }, { from: 130, to: 900, percent: 3 }]);
+  expect("a beat that comes again", stolenSince(30, 100, [{ ...beat, until: 170 }, last]), [{ ...beat, from: 110, to: 112, until: 170 }, { from: 0, to: 100, percent: 30 }, last]);
+  expect("a beat that is over", stolenSince(30, 111, [beat]), [{ from: 0, to: 111, percent: 30 }]);
   expect("half of each third centisecond", stolenParts([{ from: 0, to: 1, percent: 50, every: 3 }], 0, 6, 3),
     [{ from: 0, to: 6, percent: 17 }]);
 });
@@ -139,6 +156,22 @@ test("hands are counted", () => {
   expect("another number of core sets", Object.assign(new Run(given), { given: run.bench }).isChanged(0), true);
 });
 
+/** A slider of a profile scales all of it, as the document has it, and back. */
+test("a profile of stolen time stays one", () => {
+  const run = clockedRun(readBench('seconds = 9\nsteal = [{ from = 0, to = 300, percent = 10 }, { from = 300, to = 900, percent = 40 }]\n'));
+  const [stolen] = numbersOf(run);
+  expect("its number", [stolen.value, stolen.unit], [40, "% at most"]);
+  expect("half of it", stolen.given(20), { steal: [{ from: 0, to: 300, percent: 5 }, { from: 300, to: 900, percent: 20 }] });
+  run.change(stolen.given(0), stolen.given(0));
+  const [none] = numbersOf(run);
+  expect("nothing, and as it was", [none.value, none.given(40)], [0, { steal: run.given.steal }]);
+  const beat = { from: 0, to: 1, percent: 100, every: 20 };
+  const [beside] = numbersOf(new Run(readBench("seconds = 9\nsteal = [{ from = 0, to = 1, percent = 100, every = 20 }]\n")));
+  expect("a beat stays", [beside.value, beside.unit, beside.given(7)], [0, "%", { steal: [beat, { from: 0, to: 900, percent: 7 }] }]);
+  const [plain] = numbersOf(new Run(readBench("seconds = 9\nsteal = 15\n")));
+  expect("a percentage", [plain.value, plain.unit, plain.given(20)], [15, "%", { steal: 20 }]);
+});
+
 /** Of several changes at one time the last holds; of two events at one time one is left out. */
 test("differences are told", () => {
   const bench = readBench('seconds = 2\n[[job]]\nname = "WORK"\nat = "04000"\ncost = 10\n'
@@ -152,7 +185,7 @@ test("differences are told", () => {
   const told = "This run differs from its document: ";
   const work = "WORK costs 10 until 0.50 s, then 40 until 1.00 s, then 10 cs (document: 10 cs)";
   expect("costs", differencesOf(run), `${told}${work}.`);
-  change({ steal: stolenSince(0, 100, { from: 100, to: 200, percent: 30 }), event: bench.event.slice(0, 1) });
+  change({ steal: stolenSince(0, 100, [{ from: 100, to: 200, percent: 30 }]), event: bench.event.slice(0, 1) });
   expect("all that differs", differencesOf(run), `${told}steal 0 until 1.00 s, then 30 % (document: 0 %); ${work}; without B.`);
 });
 
@@ -243,6 +276,21 @@ test("accounts are given", () => {
   const [shown] = run.show(0, 0);
   expect("phase words", accountOf(run, shown, new Names(run.bench)).lines.flat(),
     ["No phase can be trusted, and nothing begins again.", "group 2: 77776 is not the complement of 00002"]);
+});
+
+/** Two of three jobs wait, the third sleeps; then areas and core sets are full, and at last nobody is there. */
+test("how things stand is told", () => {
+  const told = (/** @type {string[]} */ lines, more = "") => {
+    const run = runOf(lines, more);
+    return standingOf(run.show(run.count, run.count)[0], new Names(readBench(`seconds = 9\n[[job]]\nname = "WORK"\nat = "02000"\ncost = 1\n`)));
+  };
+  const work = "findvac 20 02000 00005";
+  expect("some", told(["novac 37 06000 00005", "sleep 06000", work, work, "novac 10 04000 00005", "list 151 02000 00005"]),
+    "WORK runs, WORK and job 4 wait, job 1 sleeps. There is room for 3 more jobs. The task 02000 is due in 1.51 s.");
+  expect("no area", told(Array(5).fill(work)), "WORK runs, 4 WORKs wait. All five VAC areas are owned: with one more job that needs one alarm 1201 comes.");
+  expect("no core set", told([...Array(6).fill("novac 10 02000 00005"), work]), "WORK runs, 6 WORKs wait. No core set is free: with one more job alarm 1202 comes.");
+  expect("nobody", told(["tick"]), "No job runs. There is room for 7 more jobs.");
+  expect("eight", told(["novac 20 02000 00005"], "sets = 8\n"), "WORK runs. There is room for 7 more jobs.");
 });
 
 /** What a link says was done is either all such as may have been done, or nothing is done. */

@@ -5,11 +5,12 @@ import { Lacking, start } from "../../libagc/js/machine.js";
 import { readBench } from "../../web/bench.js";
 import { runOf } from "../../web/clock.js";
 import { jobsOf } from "../../web/jobs.js";
+import { moduleBytes } from "../../web/picture.mjs";
 import { firstAlarm } from "../../web/sweep.js";
 import { Unread } from "../../web/toml.js";
 import { octal } from "../../web/words.js";
 
-await start(readFileSync(new URL("../../libagc/js/agc.wasm", import.meta.url)));
+await start(await moduleBytes());
 
 /** What a generator returns. @param {Generator} steps */
 function returned(steps) {

@@ -1,4 +1,5 @@
 """What the workbench computes of random scenarios, beside agc_watch."""
+import concurrent.futures
 import csv
 import json
 import random
@@ -12,23 +13,28 @@ from plain.make import Dice, scenario, toml
 COLUMNS = "began", "ended", "lost", "alive", "least", "mean", "most", "share", "missed", "first_missed"
 
 
+# Whoever looks at the page in the meantime doesn't wait for these.
+LATER = "nice", "-n", "19"
+
+
 def answers(folder, texts):
     """What the page's modules compute of each document."""
     with open(f"{folder}/agree.json", "w", encoding="utf-8") as file:
         json.dump([{"text": it, "steal": [0, 30, 60, 90], "sets": [7, 8]} for it in texts], file)
-    ran = subprocess.run(["node", f"{TOP}/tools/browsing/agree.mjs", f"{folder}/agree.json"], capture_output=True, text=True,
+    ran = subprocess.run([*LATER, "node", f"{TOP}/tools/browsing/agree.mjs", f"{folder}/agree.json"], capture_output=True, text=True,
                          timeout=3600, check=True)
     return json.loads(ran.stdout)
 
 
 def watch(text, *words):
     """The lines of a table of agc_watch; None where it refuses the document."""
-    ran = subprocess.run([PROGRAM, *words], input=text.encode(), capture_output=True, check=False)
+    ran = subprocess.run([*LATER, PROGRAM, *words], input=text.encode(), capture_output=True, check=False)
     return None if ran.returncode else ran.stdout.decode().splitlines()
 
 
-def wrong(text, found):
+def wrong(pair):
     """What the page has otherwise than agc_watch; and how many of the runs have an alarm, of how many addresses jobs are, and how many missed a deadline."""
+    text, found = pair
     swept = watch(text, "sweep", "sets", "7", "8", "--and", "steal:0:90:30", "--csv")
     if swept is None or found is None:
         return [] if swept is found else [f"it is a document for one alone: {found}"], (0, 0, 0)
@@ -51,10 +57,10 @@ def agrees(_browser, folder):
     texts = [toml(scenario(Dice(dice.random()))) for _ in range(COUNTS["agreements"])]
     pairs = list(zip(texts, answers(folder, texts), strict=True))
     counts = [0, 0, 0]
-    for text, found in pairs:
-        faults, more = wrong(text, found)
-        counts = [one + other for one, other in zip(counts, more)]
-        trial.expect(f"{faults}: {text}", not faults)
+    with concurrent.futures.ThreadPoolExecutor(2) as pool:
+        for (text, _), (faults, more) in zip(pairs, pool.map(wrong, pairs), strict=True):
+            counts = [one + other for one, other in zip(counts, more)]
+            trial.expect(f"{faults}: {text}", not faults)
     compared = sum(found is not None for _, found in pairs)
     trial.expect(f"only {compared} of {len(pairs)} are scenarios", compared > 0.9 * len(pairs))
     print(f"browse: agrees: {compared} scenarios, {8 * compared} runs of which {counts[0]} have an alarm, {counts[1]} rows of jobs, {counts[2]} deadlines missed")

@@ -112,6 +112,7 @@ def fits(browser, folder):
                 trial.expect(f"{name}, {scheme}: contrast {fault}", False)
     try_why(browser, trial, path)
     try_typing(browser, trial, path)
+    try_projector(browser, trial, path)
     browser.width(1920, 1080)
     browser.show(path, "#landing-1202&at=3128")
     left = browser.value("innerWidth - Math.max(...Array.from(document.querySelectorAll('#rows th, #lines td'), (it) => it.getBoundingClientRect().right))")
@@ -140,6 +141,35 @@ def try_why(browser, trial, path):
                      "of the time. There was hardly any time to end more. Job 3 ran."] and told[3].startswith("set 0: job 3, "))
         light = browser.value("document.getElementById('dsky').getAttribute('aria-label')")
         trial.expect(f"at the alarm: {light}", light == "DSKY: program alarm light on, VERB 05 NOUN 09 shows 01202 00000 01202")
+
+
+# How large the texts are that the chart paints from now on, and those that are seen beside it; and what is seen of the page.
+HEAR = """window.painted = []; (() => { const { fillText } = CanvasRenderingContext2D.prototype;
+  CanvasRenderingContext2D.prototype.fillText = function (...words) {
+    window.painted.push(parseFloat(/([0-9.]+)px/.exec(this.font)[1])); fillText.apply(this, words); }; })()"""
+LARGE = """(() => {
+  const seen = Array.from(document.querySelectorAll('#told *, #state, #title, #run')).filter((it) => it.getClientRects().length > 0 && it.textContent !== '');
+  return [Math.min(...window.painted), Math.min(...seen.map((it) => parseFloat(getComputedStyle(it).fontSize))),
+    Array.from(document.querySelectorAll('.card, .state, .list, .menu')).filter((it) => it.getClientRects().length > 0).map((it) => it.id).join(),
+    document.getElementById('try').getBoundingClientRect().bottom <= document.getElementById('story').getBoundingClientRect().bottom,
+    document.documentElement.scrollHeight <= innerHeight];
+})()"""
+
+
+def try_projector(browser, trial, path):
+    """P leaves chart and card, to be read from the last row: texts of 18 points at least at 1920 x 1080, and all on one screen."""
+    browser.width(1920, 1080)
+    for mark in "#landing-1202", "#apollo-11":
+        browser.show(path, mark)
+        browser.value(HEAR)
+        browser.press("a")
+        browser.value("window.painted.length = 0")
+        browser.press("P")
+        painted, seen, cards, is_whole, is_one = browser.value(f"{DRAWN}.then(() => {LARGE})", True)
+        trial.expect(f"{mark} for a projector: texts of {painted} and {seen} points; {cards}; {is_whole}, {is_one}",
+                     min(painted, seen) >= 18 and cards == "story,chart-box" and is_whole and is_one)
+        browser.press("P")
+        trial.expect("the projector stays", browser.value("document.querySelector('.menu').getClientRects().length > 0"))
 
 
 # How far the request line is below the bar, and above the window's end.

@@ -1,8 +1,9 @@
 """How it looks: styles, and what is seen first at each size."""
 import json
+import os
 
 from browsing.kept import settled
-from browsing.pages import open_text, says, texts
+from browsing.pages import TOP, open_text, says, texts
 
 # How some things look, and what they are called, beside what is said elsewhere.
 LOOKS = """(() => {
@@ -68,6 +69,8 @@ def try_tops(browser, trial):
     browser.click("help")
     told = texts(browser, "#dialog-body p")
     trial.expect(f"the help of alarms: {told}", "the table is full: 1201 areas, 1202 core sets, 1203 the Waitlist." in told)
+    links = browser.value("Array.from(document.querySelectorAll('#read-on a'), (it) => [it.getAttribute('href'), it.title])")
+    trial.expect(f"the help leads to {links}", len(links) == 2 and all(os.path.isfile(f"{TOP}/share/{link}") and "a clone" in title for link, title in links))
     browser.value("document.getElementById('dialog').scrollTop = 500")
     browser.press("Escape")
     browser.click("help")

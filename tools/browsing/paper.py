@@ -5,71 +5,98 @@ import re
 
 from browsing.access import CONTRAST
 from browsing.opened import TIGHT
-from browsing.pages import Trial, open_text, page_of, save
+from browsing.pages import Trial, open_text, page_of, save, texts
+
+
+# A bench in which time goes by, with an alarm at its end.
+TICKS = f"# Eight jobs, and time.\nscript = {json.dumps(['novac 20 02000 00005', *['tick'] * 4] * 8)}\n"
 
 
 def paper(browser, folder):
-    """On paper a run is a table: its title, what came of it, its plan, each row but those in which only time
-    goes by, which are one line, and the account of each alarm; and no control."""
+    """On paper a scenario has its chart, its jobs and why each alarm came, on two pages; a bench each row but those in which
+    only time goes by, which are one line, the account of each alarm, and its plan; an exercise its question, a line for each
+    answer and what the requests do, on one page; and nothing has a control."""
     trial = Trial("paper")
-    browser.show(save(folder, "paper", page_of(TIGHT)))
+    path = save(folder, "paper", page_of(""))
+    try_run(browser, trial, save(folder, "timed", page_of(TIGHT)))
+    try_rows(browser, trial, save(folder, "rows", page_of(TICKS)))
+    print_long(browser, trial)
+    try_question(browser, trial, path)
+    try_seen(browser, trial, path)
+    for name in "landing-1202", "landing", "apollo-11":
+        browser.show(path, f"#{name}")
+        pages, parts = printed(browser)
+        trial.expect(f"{name} is printed on {pages} pages, with {parts}", pages <= 2 and parts == "h1 p canvas h2 table h2 div")
+    return trial.faults
+
+
+def on_paper(browser, trial, what):
+    """The page as it is printed, with nothing else on it, and all of it can be read."""
     browser.scheme("dark", media="print")
     browser.value("window.dispatchEvent(new Event('beforeprint'))")
-    rows = browser.value("Array.from(document.querySelectorAll('#printed tbody tr'), (it) =>"
-                         " Array.from(it.children, (one) => one.textContent))")
-    at, accounts, left = 0, 0, 0
+    shown = browser.value("Array.from(document.querySelectorAll('body *')).filter((it) =>"
+                          " it.getClientRects().length > 0 && !it.closest('#printed')).length")
+    trial.expect(f"{what}: {shown} other elements are printed", shown == 0)
+    for fault in browser.value(CONTRAST):
+        trial.expect(f"contrast on paper, {what}: {fault}", False)
+
+
+def try_run(browser, trial, path):
+    """The jobs are those of the page's table, and of each alarm it is said who held what."""
+    browser.show(path)
+    on_paper(browser, trial, "a scenario")
+    left, below = browser.value(INKED)
+    trial.expect(f"names on the left of the chart: {left}, what is asked for below it: {below}", 0.02 < left < 0.2 and 0.02 < below < 0.7)
+    trial.expect(f"its head: {browser.text('printed')[:300]}", "Over 60.00 s: at most 7 of 7" in browser.text("printed"))
+    jobs = texts(browser, "#printed .jobs td"), texts(browser, "#jobs td")
+    trial.expect(f"its jobs: {jobs}", jobs[0] == jobs[1] != "")
+    reasons = browser.value("Array.from(document.querySelectorAll('#printed section'), (it) => Array.from(it.children, (one) => one.textContent))")
+    alarms = browser.value("Number(/; ([0-9]+) alarms?/.exec(document.querySelector('#printed p').textContent)[1])")
+    trial.expect(f"{len(reasons)} reasons for {alarms} alarms", len(reasons) == min(6, alarms) > 0)
+    for heading, _, account in reasons:
+        trial.expect(f"why an alarm came: {heading}: {account}", re.fullmatch(r"alarm 1202, at [0-9.]+ s", heading)
+                     and account.startswith("A job is in each core set") and account.count("\nset ") == 7)
+    browser.scheme("light")
+
+
+def try_rows(browser, trial, path):
+    """Each row of a bench is there once."""
+    browser.show(path)
+    on_paper(browser, trial, "a bench")
+    rows = browser.value("Array.from(document.querySelectorAll('#printed tbody tr'), (it) => Array.from(it.children, (one) => one.textContent))")
+    at = accounts = 0
     for cells in rows:
-        if len(cells) == 1 and cells[0].endswith(" requests are left out .."):
-            at += int(cells[0].split()[1])
-            left += 1
-            continue
         if len(cells) == 1:
             accounts += 1
             trial.expect(f"an account: {cells}", "A job is in each core set" in cells[0] and "\nThese hold them:\nset 0: job " in cells[0])
             continue
-        first, last = cells[0].split(" to ") if " to " in cells[0] else (cells[0], cells[0])
-        trial.expect(f"row {first} behind {at - 1}", int(first) == at)
-        trial.expect(f"several rows: {cells}", first == last
-                     or cells[2] == f"tick, {int(last) - int(first) + 1} times")
-        at = int(last) + 1
-    trial.expect(f"rows are left out {left} times", 2 <= left <= 6)
-    trial.expect(f"{at} rows", at == int(browser.value("document.getElementById('slider').max")) + 1)
-    trial.expect(f"{accounts} accounts", accounts == sum("alarm" in it[3] for it in rows if len(it) > 3) > 0)
-    heads = browser.text("printed")
-    trial.expect(f"its head: {heads[:300]}", "Over 60.00 s: at most 7 of 7" in heads and "cost = 190" in heads)
-    shown = browser.value("Array.from(document.querySelectorAll('body *')).filter((it) =>"
-                          " it.getClientRects().length > 0 && !it.closest('#printed')).length")
-    trial.expect(f"{shown} other elements are printed", shown == 0)
-    for fault in browser.value(CONTRAST):
-        trial.expect(f"contrast on paper: {fault}", False)
-    pages, first = printed(browser)
-    trial.expect(f"{pages} pages, with {first} first", 1 <= pages <= 4 and first.startswith("h1 p canvas h2 "))
-    left, below = browser.value(INKED)
-    trial.expect(f"names on the left of the chart: {left}, what is asked for below it: {below}", 0.02 < left < 0.2 and 0.02 < below < 0.7)
-    quiet = [cells for cells in rows if "tick, " in cells[2:3]]
-    trial.expect("a line stands for one or two rows", all(int(it[2].split()[1]) > 2 for it in quiet))
-    for cells in rows:
-        if len(cells) > 1 and " to " in cells[0] and " to " in cells[1]:
-            (first, last), (begun, ended) = ([float(one) for one in it.split(" to ")] for it in cells[:2])
+        first, last = (int(it) for it in (cells[0].split(" to ") if " to " in cells[0] else (cells[0], cells[0])))
+        trial.expect(f"row {first} behind {at - 1}", first == at)
+        trial.expect(f"several rows: {cells}", first == last or (cells[2] == f"tick, {last - first + 1} times" and last - first > 1))
+        if " to " in cells[1]:
+            begun, ended = (float(it) for it in cells[1].split(" to "))
             trial.expect(f"{cells}", last - first == round(100 * (ended - begun)))
+        at = last + 1
+    trial.expect(f"{at} rows, {accounts} accounts", (at, accounts) == (41, 1))
+    trial.expect("the plan of a bench", "novac 20 02000 00005" in texts(browser, "#printed .plan"))
     browser.scheme("light")
-    print_long(browser, trial)
-    try_question(browser, trial, save(folder, "asked", page_of("")))
-    try_seen(browser, trial, f"{folder}/asked.html")
-    for name, most in ("landing-1202", 4), ("landing", 4), ("apollo-11", 8):
-        browser.show(save(folder, "paper", page_of("")), f"#{name}")
-        pages, first = printed(browser)
-        trial.expect(f"{name} is printed on {pages} pages, with {first} first", pages <= most and first.startswith("h1 p canvas h2 "))
-    return trial.faults
 
 
 def try_question(browser, trial, path):
-    """An exercise whose answer is hidden is printed as it is asked, and afterwards with what came of it."""
+    """An exercise whose answer is hidden is printed as it is asked, on one page, and afterwards with what came of it."""
+    for number in range(1, 13):
+        browser.show(path, f"#exercise-{number}")
+        wanted = texts(browser, "#prediction label")
+        pages, parts = printed(browser)
+        told = browser.text("printed")
+        trial.expect(f"exercise {number} is printed on {pages} pages, with {parts}", pages == 1 and parts == "h1 p pre dl h2 table p")
+        trial.expect(f"exercise {number} on paper: {told}", browser.text("title") in told and not re.search("alarm [0-9]|1201 at|1202 at", told))
+        asked = browser.value("Array.from(document.querySelectorAll('#printed dt'), (it) => it.textContent)")
+        trial.expect(f"exercise {number} asks {asked}, and not {wanted}", len(asked) > 0 and all(it in wanted for it in asked)
+                     and browser.value("document.querySelectorAll('#printed dd').length") == len(asked))
+        trial.expect(f"exercise {number} has no legend", browser.value("document.querySelectorAll('#printed .legend tr').length") == 13
+                     and "findvac P A Westablish a job with a VAC area" in told)
     browser.show(path, "#exercise-1")
-    browser.value("window.dispatchEvent(new Event('beforeprint'))")
-    told = browser.text("printed")
-    trial.expect(f"an exercise on paper: {told}", told.startswith("Which request raised the alarm?Keep two counts") and "findvac 20 02000" in told
-                 and not re.search("alarm [0-9]|120[0-9]", told))
     browser.click("show-answer")
     browser.value("window.dispatchEvent(new Event('beforeprint'))")
     trial.expect("the answer isn't printed", "alarm 1201" in browser.text("printed"))
@@ -95,7 +122,8 @@ def try_seen(browser, trial, path):
 
 
 def printed(browser):
-    """On how many pages a run is printed, and in which order its parts."""
+    """On how many pages it is printed, and in which order its parts."""
+    browser.value("window.dispatchEvent(new Event('beforeprint'))")
     data = base64.b64decode(browser.call("Page.printToPDF", preferCSSPageSize=True)["data"])
     return (len(re.findall(rb"/Type */Page\b", data)),
             browser.value("Array.from(document.getElementById('printed').children, (it) => it.localName).join(' ')"))

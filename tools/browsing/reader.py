@@ -49,7 +49,8 @@ FORMS = (
     "\ufeff", "\ufeffsets = 8\n", "\ufeff\ufeffsets = 8\n", "#", "# é", " \t\n", "sets = 8", "sets =\n8\n", "sets\n= 8\n", "= 8\n", "sets 8\n",
     "\ud800", "# \udfff\n", 'script = ["\ud800"]\n')
 
-# Scenarios at the ends of what a key may have, and beyond, each with nothing else that could be wrong.
+# Scenarios, and callers that never stop, at the ends of what a key may have, and beyond, each with nothing else that
+# could be wrong.
 STORES = ['"store 1 00001"'] * 17
 THENS = ('"end"', '"sleep 04000"', '"tick"', '["end", "end"]', '["store 1 00001"]', '["store 1 00001", "tick"]', "[]",
          *(f"[{', '.join([*STORES[:count], *leaves])}]" for count in (6, 7, 8) for leaves in (['"end"'], ['"end"', '"end"'])))
@@ -71,7 +72,8 @@ EDGES = (
     *(f"seconds = 1\n{JOB}cost = 1\nthen = {it}\n" for it in THENS), *(f"seconds = 1\n{JOB}cost = 1\ndeadline = {it}\n" for it in (0, 1, 8640000, 8640001)),
     *(f"seconds = 1\nsteal = {it}\n" for it in STOLEN), *(f"seconds = 1\n{JOB}cost = 1\nname = \"{it}\"\n" for it in ("", "\u001f", "\u007f", "\u0080", "\u202e")),
     *(f'seconds = 1\n[[event]]\nname = "before"\nat = 1\ndo = "tick"\n[[event]]\n{it}\ndo = "tick"\n[[event]]\nname = "later"\nat = 1\ndo = "tick"\n' for it in EVENTS),
-    *(f"seconds = 1\n[[event]]\nat = 1\ndo = [{', '.join(STORES[:count])}]\n" for count in (0, 1, 15, 16, 17)))
+    *(f"seconds = 1\n[[event]]\nat = 1\ndo = [{', '.join(STORES[:count])}]\n" for count in (0, 1, 15, 16, 17)),
+    *(f"[[worker]]\nscript = ['tick']\nrepeat = {it}\n" for it in ("true", "false", "1", "True", "trues", "[]")), "[[device]]\nline = 'timer'\n")
 
 # Documents that aren't read, and in which line that is said to be.
 LINES = (("\n\n# a\nfoo = 1\n", 4), ('script = ["""\na\nb"""]\nsets = x\n', 4), ('script = ["""\ntick"""]\n\nsets = "7"\n', 4), ("limit = [\n1,\n\n", 4),
@@ -107,8 +109,8 @@ def documents():
 
 
 def is_taken(text):
-    """Whether agc_watch takes a document as a scenario."""
-    return "seconds" in text and subprocess.run(
+    """Whether agc_watch alone takes a document: as a scenario, or as a bench whose callers never stop."""
+    return ("seconds" in text or "repeat" in text or "device" in text) and subprocess.run(
         [PROGRAM, "peaks"], input=text.encode("utf-8", "surrogatepass"), capture_output=True, check=False).returncode == 0
 
 
@@ -130,7 +132,7 @@ def reader(_browser, folder):
     for (text, line), found in zip(LINES, read):
         trial.expect(f"{text!r}: {found}, not in line {line}", found.get("reason", "").startswith(f"line {line}: "))
     for text, found in zip(EDGES, read[len(LINES) + len(FORMS):]):
-        trial.expect(f"{text!r}: {found} names no line", "scenario" in found or found.get("reason", "").startswith("line "))
+        trial.expect(f"{text!r}: {found} names no line", "scenario" in found or "report" in found or found.get("reason", "").startswith("line "))
     # (of what asks for very much nothing is compared)
     texts, read = zip(*(it for it in zip(texts, read, strict=True) if it[1].get("report") != "long"))
     with concurrent.futures.ThreadPoolExecutor(len(os.sched_getaffinity(0))) as pool:
@@ -140,7 +142,7 @@ def reader(_browser, folder):
         if agc.returncode and is_taken(text):
             scenarios += 1
             trial.expect(f"{text[:200]!r}: {found}, and agc_watch takes it",
-                         "scenario" in found or "known here" in found.get("reason", ""))
+                         "scenario" in found or "report" in found or "known here" in found.get("reason", ""))
             continue
         if not trial.expect(f"{text[:200]!r}: agc_watch doesn't take this scenario", "scenario" not in found):
             continue
