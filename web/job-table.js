@@ -34,11 +34,17 @@ function lineOf(row, name) {
 /** @param {State} now @param {State} before */
 export function jobs(now, before) {
   const { run, count } = now;
-  if (!differ(now, before, "run", "count", "hidden") || run.isFilling) return;
-  const rows = isHidden(now) || run.bench.seconds === undefined ? [] : jobsOf(run, count);
+  if (!differ(now, before, "run", "count", "hidden")) return;
   const box = by("jobs-box");
-  assign(box, { hidden: rows.length === 0 });
   if (run.given !== before.run?.given) assign(box, { open: run.bench.job.some((it) => it.deadline !== undefined) });
+  assign(by("jobs"), { hidden: run.isFilling });
+  if (run.isFilling) {
+    // (what another run came to isn't said of this one)
+    if (run !== before.run) fill("jobs-sum", ["Jobs …"]);
+    return;
+  }
+  const rows = isHidden(now) || run.bench.seconds === undefined ? [] : jobsOf(run, count);
+  assign(box, { hidden: rows.length === 0 });
   const [names, colours] = [namesOf(run), coloursOf(run)];
   const parts = rows.map((row) => ({ row, name: names.job(row.at) ?? octal(row.at, 5), part: utilization(row) ?? 0 }));
   const stolen = (budgetOf(run, count, { from: 0, to: run.ticksAt(count) })?.stolen ?? 0) / 100;
