@@ -164,7 +164,7 @@ def try_panel(browser, trial):
                  "steal 100 for 2 of each 50 cs, else 15 until 1.00 s, then 20 % (document: 100 for 2 of each 50 cs, else 15 %).")
     browser.click("plan")
     told = browser.value("document.querySelector('#plan-fields [name=steal]').value")
-    trial.expect(f"stolen time with beats: {told}", told == "110 112 100 50\n100 200 20\n10 12 100 50 99\n0 100 15")
+    trial.expect(f"stolen time with beats: {told}", told == "110 112 100 50\n100 360000 20\n10 12 100 50 99\n0 100 15")
     browser.press("Escape")
     open_text(browser, f"limit = 9999\n{STRIPED}")
     go_to(browser, "51")
