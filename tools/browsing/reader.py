@@ -109,9 +109,15 @@ def documents():
 
 
 def is_taken(text):
-    """Whether agc_watch alone takes a document: as a scenario, or as a bench whose callers never stop."""
-    return ("seconds" in text or "repeat" in text or "device" in text) and subprocess.run(
-        [PROGRAM, "peaks"], input=text.encode("utf-8", "surrogatepass"), capture_output=True, check=False).returncode == 0
+    """Whether agc_watch alone takes a document: as a scenario, or as a bench whose callers never stop. Who runs it for long has
+    taken it."""
+    if not any(it in text for it in ("seconds", "repeat", "device")):
+        return False
+    try:
+        return subprocess.run([PROGRAM, "peaks"], input=text.encode("utf-8", "surrogatepass"), capture_output=True, check=False,
+                              timeout=60).returncode == 0
+    except subprocess.TimeoutExpired:
+        return True
 
 
 def reader(_browser, folder):
