@@ -115,10 +115,6 @@ fn report_orders(
         }
         Ok(ReachStatus::Some) => Ok(YES),
         Ok(ReachStatus::Undecided) => {
-            let most = options.states;
-            let _ = eprintln!(console.rt;
-                "agc_watch: undecided; --states N goes beyond {most} states, if memory is left"
-            );
             say_no_bench(console.rt, options);
             Ok(UNDECIDED)
         }
