@@ -1,145 +1,59 @@
 //! The differences between the outcomes of two documents.
-use crate::columns::put_spaces;
-use crate::running::send_buffer;
+use crate::keys::put_keys;
+use crate::running::send_table;
 use crate::summary::{JobsSummary, RunSummary};
 use agc_session::RunFault;
-use agc_text::Field::{Number, Octal, Seconds, Text};
-use agc_text::{Buffer, Field};
+use agc_table::{Row, Table, TableForm, left, right};
+use agc_text::Field;
+use agc_text::Field::{Bytes, Octal, Text};
 use std::alloc::Global;
 use std::io::Write;
 
-/// The columns of jobs that are compared, in the order of `jobs`.
-const COLUMNS: [&str; 14] = [
-    "  began",
-    "  ended",
-    "  lost",
-    "  alive",
-    "  least",
-    "  mean",
-    "  95%",
-    "  most",
-    "  computing",
-    "  waiting",
-    "  sleeping",
-    "  taken over",
-    "  missed",
-    "  first missed",
-];
+/// The rows of both documents: of their totals, or of jobs that are called the same.
+#[derive(Clone, Copy)]
+struct Pair<'a> {
+    one: Option<&'a Row>,
+    other: Option<&'a Row>,
+}
 
-/// The width of the first document's column.
-const WIDTH: usize = 12;
+/// The text of a row's cell at a place; a dash if there is no row.
+fn text_at(row: Option<&Row>, place: usize) -> &[u8] {
+    row.map_or(b"-".as_slice(), |row| row.text_of(place))
+}
 
-/// Whether two values are the same.
-fn is_same(one: Field<'_>, other: Field<'_>) -> bool {
-    match (one, other) {
-        (Number(one), Number(other)) => one == other,
-        (Seconds(one), Seconds(other)) => one == other,
-        (Text(one), Text(other)) => one == other,
-        _ => false,
+/// The name or address of jobs.
+fn name_field(jobs: &JobsSummary) -> Field<'_> {
+    jobs.name
+        .as_ref()
+        .map_or(Octal(jobs.at), |name| Text(name.as_str()))
+}
+
+/// Adds the cells of a line: whose value it is, its name, and the values of both documents. In a
+/// text the jobs stand in a line above.
+fn fill(table: &mut Table, jobs: Option<Field<'_>>, name: &[u8], (pair, place): (Pair<'_>, usize)) {
+    if table.is_text() {
+        table.row.text.text(if jobs.is_some() { "  " } else { "" });
+    } else {
+        table.row.option(left("job", "job", 0), jobs);
     }
+    table.row.cell(left("", "value", 24), Bytes(name));
+    table.row.copy(right("first", "first", 10), pair.one, place);
+    table
+        .row
+        .copy(right("second", "second", 10), pair.other, place);
 }
 
-/// How many letters a number has, in tens.
-fn digits(number: u64) -> usize {
-    let mut rest = number;
-    let mut count: usize = 1;
-    for _digit in 0..20u32 {
-        if rest >= 10 {
-            rest /= 10;
-            count = count.saturating_add(1);
-        }
-    }
-    count
-}
-
-/// How many letters a value has.
-fn letters(value: Field<'_>) -> usize {
-    match value {
-        Number(number) => digits(number),
-        Seconds(time) => digits(time / 100).saturating_add(3),
-        Text(text) => text.len(),
-        _ => 0,
-    }
-}
-
-/// Adds a line: a name, and the values of both documents, each at the right end of its column.
-fn put_line(buffer: &mut Buffer, name: &str, one: Field<'_>, other: Field<'_>) {
-    buffer.text(name);
-    put_spaces(buffer, name.len(), 24);
-    for value in [one, other] {
-        put_spaces(buffer, letters(value), WIDTH);
-        buffer.add(value);
-    }
-    buffer.text("\n");
-}
-
-/// The totals of runs that are compared.
-const TOTALS: [&str; 10] = [
-    "seconds",
-    "requests",
-    "refused",
-    "eras",
-    "alarms",
-    "first alarm",
-    "first alarm at",
-    "most core sets",
-    "most VAC areas",
-    "most tasks",
-];
-
-/// The total at a place of `TOTALS`.
-fn total(summary: &RunSummary, place: usize) -> Field<'static> {
-    let found = summary.peaks;
-    match place {
-        0 => Seconds(summary.time),
-        1 => Number(summary.asked),
-        2 => Number(summary.refused),
-        3 => Number(summary.eras),
-        4 => Number(found.alarms),
-        5 if found.alarms == 0 => Text("none"),
-        5 => Text(found.code),
-        6 if found.alarms == 0 => Text("-"),
-        6 => Seconds(found.at),
-        7 => Number(found.sets),
-        8 => Number(found.areas),
-        _ => Number(found.tasks),
-    }
-}
-
-/// Adds the name or address of an address's jobs.
-fn put_called(buffer: &mut Buffer, jobs: &JobsSummary) {
-    let called = match &jobs.name {
-        None => Octal(jobs.at),
-        Some(name) => Text(name.as_str()),
-    };
-    buffer.put("job {}\n", &[called]);
-}
-
-/// The text of a column; a dash if a document doesn't have such jobs.
-fn cell(jobs: Option<&JobsSummary>, column: usize) -> Field<'static> {
-    let Some(jobs) = jobs else {
-        return Text("-");
-    };
-    let mut cells = jobs.cells.iter().chain(jobs.deadline.iter());
-    cells.nth(column).copied().unwrap_or(Text("-"))
-}
-
-/// Adds the values of jobs that differ, below their name.
-fn put_jobs(
-    buffer: &mut Buffer,
-    jobs: &JobsSummary,
-    one: Option<&JobsSummary>,
-    other: Option<&JobsSummary>,
-) {
-    let mut is_called = false;
-    for (column, name) in COLUMNS.iter().enumerate() {
-        let (here, there) = (cell(one, column), cell(other, column));
-        if !is_same(here, there) {
-            if !is_called {
-                put_called(buffer, jobs);
+/// Adds the values that differ; in a text those of jobs stand below their name.
+fn put(table: &mut Table, jobs: Option<Field<'_>>, names: &Row, pair: Pair<'_>) {
+    let mut is_called = jobs.is_none() || !table.is_text();
+    for place in 0..names.len() {
+        if text_at(pair.one, place) != text_at(pair.other, place) {
+            if let (false, Some(jobs)) = (is_called, jobs) {
+                table.lines.put("job {}\n", &[jobs]);
                 is_called = true;
             }
-            put_line(buffer, name, here, there);
+            fill(table, jobs, names.name_of(place), (pair, place));
+            table.end_row();
         }
     }
 }
@@ -155,32 +69,30 @@ fn called_as<'a>(all: &'a [JobsSummary], jobs: &JobsSummary) -> Option<&'a JobsS
 }
 
 /// Adds the jobs that differ, those of the first document first.
-fn put_all_jobs(buffer: &mut Buffer, one: &[JobsSummary], other: &[JobsSummary]) {
+fn put_all_jobs(table: &mut Table, one: &[JobsSummary], other: &[JobsSummary]) {
     for jobs in one {
-        put_jobs(buffer, jobs, Some(jobs), called_as(other, jobs));
+        let pair = Pair {
+            one: Some(&jobs.row),
+            other: called_as(other, jobs).map(|jobs| &jobs.row),
+        };
+        put(table, Some(name_field(jobs)), &jobs.row, pair);
     }
     for jobs in other {
         if called_as(one, jobs).is_none() {
-            put_jobs(buffer, jobs, None, Some(jobs));
+            let pair = Pair {
+                one: None,
+                other: Some(&jobs.row),
+            };
+            put(table, Some(name_field(jobs)), &jobs.row, pair);
         }
     }
 }
 
-/// Adds all differences.
-fn put_all(buffer: &mut Buffer, one: &RunSummary, other: &RunSummary) {
-    for (place, name) in TOTALS.iter().enumerate() {
-        let (here, there) = (total(one, place), total(other, place));
-        if !is_same(here, there) {
-            put_line(buffer, name, here, there);
-        }
-    }
-    put_all_jobs(buffer, one.jobs.as_slice(), other.jobs.as_slice());
-}
-
-/// Writes what differs between the outcomes of two documents: how long they last, how many
+/// Writes which keys of two documents differ, given their texts, and what differs between their
+/// outcomes: how long they last, how many
 /// requests, refusals, eras and alarms there are, the first alarm, the most core sets, VAC areas
 /// and tasks at once, and what `jobs` tells of the jobs that are called the same. Returns whether
-/// anything differs. The writer is not flushed.
+/// the outcomes differ. The writer is not flushed.
 ///
 /// # Errors
 ///
@@ -188,19 +100,33 @@ fn put_all(buffer: &mut Buffer, one: &RunSummary, other: &RunSummary) {
 /// has no room.
 pub fn put_differences<W: Write>(
     alloc: Global,
-    one: &RunSummary,
-    other: &RunSummary,
+    [(text, one), (other_text, other)]: [(&str, &RunSummary); 2],
+    form: TableForm,
     writer: &mut W,
 ) -> Result<bool, RunFault> {
-    let mut buffer = Buffer::new(alloc)?;
-    put_line(&mut buffer, "", Text("first"), Text("second"));
-    let heading = buffer.as_bytes().len();
-    put_all(&mut buffer, one, other);
-    let differs = buffer.as_bytes().len() > heading;
-    if !differs {
-        buffer.clear();
-        buffer.text("nothing differs\n");
+    let mut table = Table::new(alloc, form)?;
+    let totals = Pair {
+        one: Some(&one.totals),
+        other: Some(&other.totals),
+    };
+    fill(&mut table, None, b"", (totals, 0));
+    table.end_heading();
+    let empty = table.lines.as_bytes().len();
+    put_keys(alloc, &mut table, text, other_text)?;
+    let heading = table.lines.as_bytes().len();
+    put(&mut table, None, &one.totals, totals);
+    put_all_jobs(&mut table, one.jobs.as_slice(), other.jobs.as_slice());
+    let differs = table.lines.as_bytes().len() > heading;
+    if !differs && table.is_text() {
+        if heading == empty {
+            table.lines.clear();
+        }
+        table.lines.text(if heading == empty {
+            "nothing differs\n"
+        } else {
+            "nothing else differs\n"
+        });
     }
-    send_buffer(&mut buffer, writer)?;
+    send_table(&mut table, writer)?;
     Ok(differs)
 }

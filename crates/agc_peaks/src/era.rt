@@ -1,28 +1,8 @@
 //! The statistics of an era.
-use crate::columns::{put_cell, put_cells, put_spaces, seconds};
+use crate::jobs_rows::seconds;
 use crate::occupancy::Occupancy;
+use agc_table::{Column, Row, Table, left, right};
 use agc_text::Field::{Number, Seconds, Text};
-use agc_text::{Buffer, Field};
-
-/// The heading of the table.
-const HEADING: &str = " era    begins  by         lasts  requests  begun  ended   sets    since  \
-    areas    since  tasks    since";
-
-/// The heading of the comma-separated values.
-const NAMES: &str = "era,begins,by,lasts,requests,begun,ended,sets,sets_since,areas,areas_since,\
-    tasks,tasks_since,idle,lost,ended_by\n";
-
-/// The style of the rows of eras: whether they have what is known only if time passes by itself,
-/// which is the percentage of ticks at which no job was running, and the computing that was lost;
-/// and whether they are comma-separated values or columns.
-#[derive(Clone, Copy)]
-pub(crate) struct Style {
-    pub(crate) has_time: bool,
-    pub(crate) csv: bool,
-}
-
-/// The widths of the columns, from the third number on.
-const WIDTHS: [usize; 10] = [9, 9, 6, 6, 6, 8, 6, 8, 6, 8];
 
 /// The greatest count, and the centisecond since which it was reached.
 #[derive(Clone, Copy)]
@@ -41,6 +21,12 @@ impl Maximum {
             self.count = count;
             self.since = time;
         }
+    }
+
+    /// Adds it and since when to a row.
+    fn fill(self, row: &mut Row, count: Column<'_>, since: Column<'_>) {
+        row.cell(count, Number(self.count));
+        row.cell(since, Seconds(self.since));
     }
 }
 
@@ -111,76 +97,35 @@ impl Era {
         self.idle.saturating_mul(100) / lasts.max(1)
     }
 
-    /// Adds its row.
-    pub(crate) fn put(&self, style: Style, buffer: &mut Buffer) {
-        if style.csv {
-            put_csv(self, style.has_time, buffer);
-        } else {
-            self.put_columns(style.has_time, buffer);
-        }
-    }
-
-    /// Adds its row in columns.
-    fn put_columns(&self, has_time: bool, buffer: &mut Buffer) {
-        put_cell(buffer, 4, Number(self.number));
-        buffer.text(" ");
-        put_cell(buffer, 9, Seconds(self.began));
-        buffer.fill("  ", Text(self.by));
-        put_spaces(buffer, self.by.len(), 7);
-        put_cells(buffer, " ", &WIDTHS, &numbers(self));
+    /// Adds the cells of its row to a table: what is known only if time passes by itself, which is
+    /// the percentage of ticks at which no job was running, and the computing that was lost, is in
+    /// each table for other programs.
+    pub(crate) fn fill(&self, has_time: bool, table: &mut Table) {
+        let is_text = table.is_text();
+        let row = &mut table.row;
+        row.cell(right("era", "era", 4), Number(self.number));
+        row.cell(right("begins", "begins", 8), Seconds(self.began));
+        row.cell(left("by", "by", 7), Text(self.by));
+        let lasts = self.ended.saturating_sub(self.began);
+        row.cell(right("lasts", "lasts", 8), Seconds(lasts));
+        row.cell(right("requests", "requests", 8), Number(self.requests));
+        row.cell(right("begun", "begun", 5), Number(self.jobs_begun));
+        row.cell(right("ended", "ended", 5), Number(self.jobs_ended));
+        row.below();
+        let (count, since) = (right("sets", "sets", 5), right("since", "sets_since", 7));
+        self.sets.fill(row, count, since);
+        let (count, since) = (right("areas", "areas", 5), right("since", "areas_since", 7));
+        self.areas.fill(row, count, since);
+        let (count, since) = (right("tasks", "tasks", 5), right("since", "tasks_since", 7));
+        self.tasks.fill(row, count, since);
+        let (idle, lost) = (right("idle", "idle", 4), right("lost", "lost", 6));
         if has_time {
-            buffer.text(" ");
-            put_cell(buffer, 4, Number(self.idle_percent()));
-            buffer.text("%");
-            put_cells(buffer, " ", &[7], &[seconds(self.lost)]);
+            row.percent(idle, self.idle_percent());
+            row.cell(lost, seconds(self.lost));
+        } else if !is_text {
+            row.option(idle, None);
+            row.option(lost, None);
         }
-        buffer.fill("  ", Text(self.end));
-        buffer.text("\n");
+        row.cell(left("ended by", "ended_by", 0), Text(self.end));
     }
-}
-
-/// The numbers of an era's row.
-fn numbers(era: &Era) -> [Field<'static>; 10] {
-    [
-        Seconds(era.ended.saturating_sub(era.began)),
-        Number(era.requests),
-        Number(era.jobs_begun),
-        Number(era.jobs_ended),
-        Number(era.sets.count),
-        Seconds(era.sets.since),
-        Number(era.areas.count),
-        Seconds(era.areas.since),
-        Number(era.tasks.count),
-        Seconds(era.tasks.since),
-    ]
-}
-
-/// Adds an era's row as comma-separated values.
-fn put_csv(era: &Era, has_time: bool, buffer: &mut Buffer) {
-    let first = [Number(era.number), Seconds(era.began), Text(era.by)];
-    buffer.put("{},{},{}", &first);
-    for cell in numbers(era) {
-        buffer.fill(",", cell);
-    }
-    if has_time {
-        let fields = [Number(era.idle_percent()), seconds(era.lost)];
-        buffer.put(",{},{}", &fields);
-    } else {
-        buffer.text(",,");
-    }
-    buffer.put(",{}\n", &[Text(era.end)]);
-}
-
-/// Adds the names of the columns.
-pub(crate) fn put_heading(style: Style, buffer: &mut Buffer) {
-    if style.csv {
-        buffer.text(NAMES);
-        return;
-    }
-    buffer.text(HEADING);
-    buffer.text(if style.has_time {
-        "  idle    lost  ended by\n"
-    } else {
-        "  ended by\n"
-    });
 }

@@ -1,19 +1,22 @@
 //! The smallest value of a scenario's number that raises an alarm.
+use crate::run_statistics::RunPeaks;
 use crate::sweep::{Axis, SweepWriter, runs_of, values_of};
 use agc_scenario::Scenario;
 use agc_session::RunFault;
+use agc_table::TableForm;
 use agc_text::Field::Number;
 use std::alloc::Global;
 use std::io::Write;
 
-/// A value that was tried, by its place from 0, and whether an alarm came.
+/// A value that was tried, by its place from 0, and the peaks of its run.
 #[derive(Clone, Copy)]
 struct Trial {
     place: u64,
-    is_alarmed: bool,
+    peaks: RunPeaks,
 }
 
-/// A search among the values of a number, the only one of a sweep, and which were tried.
+/// A search among the values of a number, the only one of a sweep, and those that were tried, in
+/// order.
 #[derive(Drop)]
 struct Search<'a> {
     sweep: SweepWriter<'a>,
@@ -36,21 +39,22 @@ impl Search<'_> {
     fn known_result(&self, place: u64) -> Option<bool> {
         for trial in self.trials.iter() {
             if trial.place == place {
-                return Some(trial.is_alarmed);
+                return Some(trial.peaks.alarms > 0);
             }
         }
         None
     }
 
-    /// Whether the value at a place raises an alarm; if it wasn't tried before, it is run and its
-    /// row is added.
+    /// Whether the value at a place raises an alarm; if it wasn't tried before, it is run.
     fn raises(&mut self, scenario: &mut Scenario, place: u64) -> Result<bool, RunFault> {
         if let Some(is_alarmed) = self.known_result(place) {
             return Ok(is_alarmed);
         }
-        let is_alarmed = self.sweep.put_run(scenario, place)?.alarms > 0;
-        self.trials.push(Trial { place, is_alarmed })?;
-        Ok(is_alarmed)
+        let peaks = self.sweep.run(scenario, place)?;
+        let before = self.trials.iter().take_while(|trial| trial.place < place);
+        let index = before.count();
+        self.trials.insert(index, Trial { place, peaks })?;
+        Ok(peaks.alarms > 0)
     }
 
     /// A place whose value raises an alarm. The first place is tried, then the last, and then those
@@ -98,17 +102,12 @@ impl Search<'_> {
 
     /// The least value, above the one that was found, that was tried and raises no alarm.
     fn exception(&self, found: u64) -> Option<u64> {
-        let mut least: Option<u64> = None;
         for trial in self.trials.iter() {
-            if trial.place > found && !trial.is_alarmed {
-                let place = least.unwrap_or(trial.place).min(trial.place);
-                least = Some(place);
+            if trial.place > found && trial.peaks.alarms == 0 {
+                return Some(self.value(trial.place));
             }
         }
-        match least {
-            None => None,
-            Some(place) => Some(self.value(place)),
-        }
+        None
     }
 
     /// Adds the value that was found, in how many runs, and whether a larger one raises no alarm.
@@ -116,16 +115,16 @@ impl Search<'_> {
         let runs = Number(self.trials.len() as u64);
         let Some(found) = found else {
             let words = "none of these values raises an alarm; {} runs\n";
-            self.sweep.buffer.put(words, &[runs]);
+            self.sweep.table.lines.put(words, &[runs]);
             return;
         };
         let fields = [Number(self.value(found)), runs];
-        self.sweep.buffer.put(
+        self.sweep.table.lines.put(
             "the smallest value found that raises an alarm is {}; {} runs\n",
             &fields,
         );
         if let Some(larger) = self.exception(found) {
-            self.sweep.buffer.put(
+            self.sweep.table.lines.put(
                 "warning: {} is larger and raises none, so there may be a smaller one\n",
                 &[Number(larger)],
             );
@@ -140,16 +139,19 @@ impl Search<'_> {
             self.try_larger(scenario, least)?;
             found = Some(least);
         }
-        if !self.sweep.csv {
+        for trial in self.trials.iter() {
+            self.sweep.put(trial.place, &trial.peaks);
+        }
+        if self.sweep.table.is_text() {
             self.put_summary(found);
         }
-        Ok(self.sweep.buffer.send(writer)?)
+        Ok(self.sweep.table.send(writer)?)
     }
 }
 
 /// Looks for the smallest value of a number with which a scenario raises an alarm, by halving, and
-/// tries a few larger ones. Writes the row of each value that is tried, as in a sweep, and then,
-/// unless comma-separated values are asked for, what was found. The number keeps the value that was
+/// tries a few larger ones. Writes the rows of the values that were tried, in order, as in a
+/// sweep, and then, in a text, what was found. The number keeps the value that was
 /// tried last. The writer is not flushed.
 ///
 /// # Errors
@@ -160,10 +162,10 @@ pub fn find_alarm<W: Write>(
     alloc: Global,
     scenario: &mut Scenario,
     axes: &[Axis<'_>; 1],
-    csv: bool,
+    form: TableForm,
     writer: &mut W,
 ) -> Result<(), RunFault> {
-    let sweep = SweepWriter::new(alloc, axes, csv)?;
+    let sweep = SweepWriter::new(alloc, axes, form)?;
     let trials = Vec::new(alloc);
     let mut search = Search { sweep, trials };
     search.find(scenario, writer)

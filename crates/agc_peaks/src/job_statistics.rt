@@ -138,6 +138,11 @@ impl<'a> JobStatistics<'a> {
         Ok(job_statistics)
     }
 
+    /// The jobs of no address.
+    pub(crate) fn none(&self) -> AddressStatistics {
+        AddressStatistics::at(self.alloc, 0, None)
+    }
+
     /// The jobs of an address.
     fn row_at(&mut self, at: u16) -> Result<&mut AddressStatistics, AllocError> {
         let known_result = self.rows.iter().position(|row| row.at == at);

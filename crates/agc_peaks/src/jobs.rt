@@ -8,11 +8,11 @@ use crate::clock_position::{ClockPosition, Elapsed};
 use crate::job_statistics::JobStatistics;
 use crate::jobs_rows::put_jobs;
 use crate::live_jobs::jobs_in;
-use crate::running::send_buffer;
+use crate::running::send_table;
 use agc_plan::Request;
 use agc_run::{Run, Subject};
 use agc_session::RunFault;
-use agc_text::Buffer;
+use agc_table::{Table, TableForm};
 use std::alloc::{AllocError, Global};
 use std::io::Write;
 
@@ -95,11 +95,11 @@ pub(crate) fn job_statistics_of<'a>(
 pub fn write_jobs<W: Write>(
     alloc: Global,
     subject: Subject<'_>,
-    csv: bool,
+    (form, eras): (TableForm, bool),
     writer: &mut W,
 ) -> Result<(), RunFault> {
-    let mut buffer = Buffer::new(alloc)?;
+    let mut table = Table::new(alloc, form)?;
     let job_statistics = job_statistics_of(alloc, subject)?;
-    put_jobs(&mut buffer, &job_statistics, subject.timing(), csv);
-    send_buffer(&mut buffer, writer)
+    put_jobs(&mut table, &job_statistics, subject.timing(), eras);
+    send_table(&mut table, writer)
 }

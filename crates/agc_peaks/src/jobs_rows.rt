@@ -1,52 +1,13 @@
 //! The table of a run's jobs.
-use crate::columns::{put_cells, put_spaces, seconds};
 use crate::job_statistics::{AddressStatistics, EraTime, JobStatistics};
 use agc_scenario::{TimedJob, Timing};
-use agc_text::Field::{Csv, Number, Octal, Seconds, Text};
-use agc_text::{Buffer, Field};
+use agc_table::{Row, Table, TableForm, left, right};
+use agc_text::Field;
+use agc_text::Field::{Number, Octal, Seconds, Text};
 
-/// The names of the columns after the first.
-const HEADING: &str =
-    "  began  ended   lost  alive    least     mean      95%     most  computing  \
-    waiting  sleeping  taken over   share";
-
-/// The heading of the columns that follow if a job has a deadline.
-const DEADLINE: &str = "  missed  first missed";
-
-/// The text of these columns for a job that has none.
-const NO_DEADLINE: [&str; 2] = ["     -", "           -"];
-
-/// The heading of the comma-separated values.
-const NAMES: &str = "job,began,ended,lost,alive,least,mean,p95,most,computing,waiting,sleeping,\
-    taken_over,share,missed,first_missed\n";
-
-/// The widths of the columns.
-const WIDTHS: [usize; 12] = [5, 5, 5, 5, 7, 7, 7, 7, 9, 7, 8, 10];
-
-/// The widths of the columns of deadlines, after the share.
-const DEADLINE_WIDTHS: [usize; 2] = [6, 12];
-
-/// The heading of the table of eras.
-const ERAS: &str = "\n era    begins     lasts  computing  stolen    idle\n";
-
-/// A part of a whole in thousandths, to the nearest.
-fn thousandths(part: u64, whole: u64) -> u64 {
-    let doubled = whole.saturating_mul(2).max(1);
-    part.saturating_mul(2000).saturating_add(whole) / doubled
-}
-
-/// Adds thousandths as a percentage with one decimal, at the right end of a column.
-fn put_percent(buffer: &mut Buffer, width: usize, thousandths: u64) {
-    let letters = match thousandths {
-        0..100 => 3,
-        100..1000 => 4,
-        _ => 5,
-    };
-    put_spaces(buffer, letters, width);
-    buffer.put(
-        "{}.{}",
-        &[Number(thousandths / 10), Number(thousandths % 10)],
-    );
+/// Hundredths of a centisecond as seconds, to the nearest hundredth.
+pub(crate) fn seconds(hundredths: u64) -> Field<'static> {
+    Seconds(hundredths.saturating_add(50) / 100)
 }
 
 /// Means over the jobs of an address, in hundredths of a centisecond: how long they took, and how
@@ -83,45 +44,38 @@ fn percentile(times: &[u64], percent: usize) -> u64 {
     times.get(rank.saturating_sub(1)).copied().unwrap_or(0)
 }
 
-/// The values of the columns of an address's jobs. `unknown` stands for computing time that isn't
-/// known.
-pub(crate) fn cells(
-    row: &AddressStatistics,
-    unknown: Option<&'static str>,
-) -> [Field<'static>; 12] {
-    let times = row.responses.as_slice();
-    let mean = mean_of(row);
-    let computed = match unknown {
-        None => seconds(mean.computed),
-        Some(unknown) => Text(unknown),
-    };
-    [
-        Number(row.began),
-        Number(times.len() as u64),
-        Number(row.lost),
-        Number(row.alive),
-        seconds(times.first().copied().unwrap_or(0)),
-        seconds(mean.response),
-        seconds(percentile(times, 95)),
-        seconds(times.last().copied().unwrap_or(0)),
-        computed,
-        seconds(mean.waited),
-        seconds(mean.slept),
-        Number(row.taken_over),
-    ]
+/// Adds to a row how many jobs of an address there were, how long they took, and how much of it
+/// they computed, if that is known, waited and slept.
+pub(crate) fn fill_times(row: &mut Row, jobs: &AddressStatistics, has_time: bool) {
+    let times = jobs.responses.as_slice();
+    let mean = mean_of(jobs);
+    let (first, last) = (times.first().copied(), times.last().copied());
+    row.cell(right("began", "began", 5), Number(jobs.began));
+    row.cell(right("ended", "ended", 5), Number(times.len() as u64));
+    row.cell(right("lost", "lost", 5), Number(jobs.lost));
+    row.cell(right("alive", "alive", 5), Number(jobs.alive));
+    row.cell(right("least", "least", 7), seconds(first.unwrap_or(0)));
+    row.cell(right("mean", "mean", 7), seconds(mean.response));
+    row.cell(right("95%", "p95", 7), seconds(percentile(times, 95)));
+    row.cell(right("most", "most", 7), seconds(last.unwrap_or(0)));
+    row.below();
+    let computed = Some(seconds(mean.computed)).filter(|_mean| has_time);
+    row.option(right("computing", "computing", 9), computed);
+    row.cell(right("waiting", "waiting", 7), seconds(mean.waited));
+    row.cell(right("sleeping", "sleeping", 8), seconds(mean.slept));
+    let taken_over = Number(jobs.taken_over);
+    row.cell(right("taken over", "taken_over", 10), taken_over);
 }
 
-/// The values of an address's deadline, or `none` if it has no deadline.
-pub(crate) fn deadline_cells(
-    row: &AddressStatistics,
-    none: [&'static str; 2],
-) -> [Field<'static>; 2] {
-    let [missed, first] = none;
-    match (row.deadline, row.first_missed) {
-        (None, _) => [Text(missed), Text(first)],
-        (Some(_deadline), None) => [Number(0), Text(first)],
-        (Some(_deadline), Some(first)) => [Number(row.missed), seconds(first)],
-    }
+/// Adds to a row how many jobs of an address missed their deadline, and when the first did.
+pub(crate) fn fill_deadline(row: &mut Row, jobs: &AddressStatistics) {
+    let (missed, first) = match (jobs.deadline, jobs.first_missed) {
+        (None, _) => (None, None),
+        (Some(_deadline), None) => (Some(Number(0)), None),
+        (Some(_deadline), Some(first)) => (Some(Number(jobs.missed)), Some(seconds(first))),
+    };
+    row.option(right("missed", "missed", 6), missed);
+    row.option(right("first missed", "first_missed", 12), first);
 }
 
 /// The scenario's row for an address, if it has one.
@@ -134,147 +88,105 @@ pub(crate) fn name_at(timing: Option<&Timing>, at: u16) -> Option<&str> {
     job_at(timing, at)?.name()
 }
 
-/// The width of the column of names: that of the longest.
-fn width_of(job_statistics: &JobStatistics<'_>, timing: Option<&Timing>) -> usize {
+/// The width of the column of names: that of the longest, and in the narrow form at most 16.
+fn width_of(statistics: &JobStatistics<'_>, timing: Option<&Timing>, form: TableForm) -> usize {
     let mut width = 8;
-    for row in job_statistics.rows.iter() {
+    for row in statistics.rows.iter() {
         if let Some(name) = name_at(timing, row.at) {
             width = name.chars().count().max(width);
         }
     }
-    width
-}
-
-/// Adds the name of an address's jobs, or the address, in a column of this width.
-fn put_name(buffer: &mut Buffer, width: usize, name: Option<&str>, at: u16) {
-    match name {
-        None => {
-            buffer.add(Octal(at));
-            put_spaces(buffer, 5, width);
-        }
-        Some(name) => {
-            buffer.text(name);
-            put_spaces(buffer, name.chars().count(), width);
-        }
+    match form {
+        TableForm::Narrow => width.min(16),
+        _ => width,
     }
 }
 
-/// Adds the statistics of an address's jobs, in a run of which this much time is known to have
-/// passed.
-fn put_address(buffer: &mut Buffer, row: &AddressStatistics, time: Option<u64>) {
-    match time {
-        None => {
-            put_cells(buffer, "  ", &WIDTHS, &cells(row, Some("        -")));
-            buffer.text("       -");
-        }
-        Some(time) => {
-            put_cells(buffer, "  ", &WIDTHS, &cells(row, None));
-            put_percent(buffer, 7, thousandths(row.computed, time));
-            buffer.text("%");
-        }
-    }
+/// A table of the jobs of addresses: the width of the names, the time that the run is known to
+/// have taken, and whether deadlines are shown.
+#[derive(Clone, Copy)]
+struct Look {
+    width: usize,
+    time: Option<u64>,
+    has_deadline: bool,
 }
 
-/// Adds the heading, with that of the deadlines if a job has one.
-fn put_heading(buffer: &mut Buffer, width: usize, has_deadline: bool) {
-    let deadline = if has_deadline { DEADLINE } else { "" };
-    buffer.text("job");
-    put_spaces(buffer, 3, width);
-    buffer.put("{}{}\n", &[Text(HEADING), Text(deadline)]);
+/// Adds the cells of an address's jobs to a row.
+fn fill(row: &mut Row, look: Look, jobs: &AddressStatistics, name: Option<&str>) {
+    let job = name.map_or(Octal(jobs.at), Text);
+    row.cell(left("job", "job", look.width), job);
+    fill_times(row, jobs, look.time.is_some());
+    let share = right("share", "share", 6);
+    match look.time {
+        None => row.option(share, None),
+        Some(time) => row.share(share, jobs.computed, time),
+    }
+    if look.has_deadline {
+        fill_deadline(row, jobs);
+    }
 }
 
 /// Adds the heading, and the row of each address.
-fn put_rows(
-    buffer: &mut Buffer,
-    job_statistics: &JobStatistics<'_>,
-    timing: Option<&Timing>,
-    time: Option<u64>,
-) {
-    let width = width_of(job_statistics, timing);
-    let has_deadline = job_statistics.rows.iter().any(|row| row.deadline.is_some());
-    put_heading(buffer, width, has_deadline);
-    for row in job_statistics.rows.iter() {
-        put_name(buffer, width, name_at(timing, row.at), row.at);
-        put_address(buffer, row, time);
-        if has_deadline {
-            let deadline = deadline_cells(row, NO_DEADLINE);
-            put_cells(buffer, "  ", &DEADLINE_WIDTHS, &deadline);
-        }
-        buffer.text("\n");
+fn put_rows(table: &mut Table, statistics: &JobStatistics<'_>, timing: Option<&Timing>) {
+    let has_deadline = statistics.rows.iter().any(|row| row.deadline.is_some());
+    let look = Look {
+        width: width_of(statistics, timing, table.form),
+        time: timing.map(|_timing| statistics.now),
+        has_deadline: has_deadline || !table.is_text(),
+    };
+    fill(&mut table.row, look, &statistics.none(), None);
+    table.end_heading();
+    for row in statistics.rows.iter() {
+        fill(&mut table.row, look, row, name_at(timing, row.at));
+        table.end_row();
     }
 }
 
-/// Adds the row of an address as comma-separated values.
-fn put_csv(buffer: &mut Buffer, name: Option<&str>, row: &AddressStatistics, time: Option<u64>) {
-    match name {
-        None => buffer.add(Octal(row.at)),
-        Some(name) => buffer.add(Csv(name)),
-    }
-    let unknown = if time.is_none() { Some("") } else { None };
-    for cell in cells(row, unknown) {
-        buffer.fill(",", cell);
-    }
-    buffer.text(",");
-    if let Some(time) = time {
-        put_percent(buffer, 0, thousandths(row.computed, time));
-    }
-    for cell in deadline_cells(row, ["", ""]) {
-        buffer.fill(",", cell);
-    }
-    buffer.text("\n");
-}
-
-/// Adds the row of an era, which ended at this centisecond.
-fn put_era(buffer: &mut Buffer, number: u64, era: &EraTime, ended: u64) {
+/// Adds the cells of an era, which ended at this centisecond, to a row.
+fn fill_era(row: &mut Row, number: u64, era: &EraTime, ended: u64) {
     let lasts = ended.saturating_sub(era.began);
     let time = era
         .computed
         .saturating_add(era.stolen)
         .saturating_add(era.idle);
-    put_cells(
-        buffer,
-        "",
-        &[4, 10, 10],
-        &[Number(number), Seconds(era.began), Seconds(lasts)],
-    );
-    for (width, part) in [(10, era.computed), (7, era.stolen), (7, era.idle)] {
-        put_percent(buffer, width, thousandths(part, time));
-        buffer.text("%");
-    }
-    buffer.text("\n");
+    row.cell(right("era", "era", 4), Number(number));
+    row.cell(right("begins", "begins", 8), Seconds(era.began));
+    row.cell(right("lasts", "lasts", 8), Seconds(lasts));
+    row.share(right("computing", "computing", 9), era.computed, time);
+    row.share(right("stolen", "stolen", 6), era.stolen, time);
+    row.share(right("idle", "idle", 6), era.idle, time);
 }
 
 /// Adds how the time of each era was used.
-fn put_eras(buffer: &mut Buffer, job_statistics: &JobStatistics<'_>) {
-    buffer.text(ERAS);
-    let eras = job_statistics.eras.as_slice();
+fn put_eras(table: &mut Table, statistics: &JobStatistics<'_>) {
+    let eras = statistics.eras.as_slice();
+    if let Some(first) = eras.first() {
+        fill_era(&mut table.row, 1, first, 0);
+        table.end_heading();
+    }
     for (k, era) in eras.iter().enumerate() {
-        let ended = match eras.get(k.saturating_add(1)) {
-            None => job_statistics.time,
-            Some(next) => next.began,
-        };
-        put_era(buffer, (k as u64).saturating_add(1), era, ended);
+        let next = eras.get(k.saturating_add(1));
+        let ended = next.map_or(statistics.time, |next| next.began);
+        let number = (k as u64).saturating_add(1);
+        fill_era(&mut table.row, number, era, ended);
+        table.end_row();
     }
 }
 
-/// Adds the statistics of jobs by their addresses and, in a table of a scenario, how the time of
-/// each era was used.
+/// Adds the statistics of jobs by their addresses or, if these are asked for and in a text of a
+/// scenario behind them, how the time of each era was used.
 pub(crate) fn put_jobs(
-    buffer: &mut Buffer,
-    job_statistics: &JobStatistics<'_>,
+    table: &mut Table,
+    statistics: &JobStatistics<'_>,
     timing: Option<&Timing>,
-    csv: bool,
+    eras: bool,
 ) {
-    let time = timing.map(|_timing| job_statistics.now);
-    if csv {
-        buffer.text(NAMES);
-        for row in job_statistics.rows.iter() {
-            put_csv(buffer, name_at(timing, row.at), row, time);
+    if !eras {
+        put_rows(table, statistics, timing);
+        if timing.is_none() || !table.is_text() {
+            return;
         }
-        return;
+        table.lines.text("\n");
     }
-    put_rows(buffer, job_statistics, timing, time);
-    if timing.is_some() {
-        put_eras(buffer, job_statistics);
-    }
+    put_eras(table, statistics);
 }

@@ -3,17 +3,16 @@
 #![tactic(auto)]
 
 mod clock_position;
-mod columns;
 mod comparing;
 mod era;
 mod finding;
 mod job_statistics;
 mod jobs;
 mod jobs_rows;
+mod keys;
 mod live_jobs;
 mod occupancy;
 mod peaks;
-mod rows;
 mod run_statistics;
 mod running;
 mod summary;

@@ -1,45 +1,49 @@
 //! How full the tables were, era by era.
-use crate::era::{Style, put_heading};
 use crate::run_statistics::RunStatistics;
-use crate::running::{RunReport, run_to_end, send_buffer};
+use crate::running::{RunReport, run_to_end, send_table};
 use agc_run::{Run, Subject};
 use agc_session::RunFault;
-use agc_text::Buffer;
+use agc_table::{Table, TableForm};
 use agc_text::Field::Number;
 use std::alloc::Global;
 use std::io::Write;
 
 /// Adds the row of the last era and, unless it is for other programs, how many requests were
 /// refused.
-fn put_last(buffer: &mut Buffer, statistics: &RunStatistics, style: Style) {
-    statistics.era("the end").put(style, buffer);
+fn put_last(table: &mut Table, statistics: &RunStatistics, has_time: bool) {
+    statistics.era("the end").fill(has_time, table);
+    table.end_row();
     match statistics.refused {
-        _ if style.csv => {}
+        _ if !table.is_text() => {}
         0 => {}
-        1 => buffer.text("1 request was refused\n"),
-        count => buffer.put("{} requests were refused\n", &[Number(count)]),
+        1 => table.lines.text("1 request was refused\n"),
+        count => table
+            .lines
+            .put("{} requests were refused\n", &[Number(count)]),
     }
 }
 
 /// Writes the heading, the row of each era, and the lines after them.
 fn put_eras<W: Write>(
     run: &mut Run<'_>,
-    style: Style,
-    buffer: &mut Buffer,
+    has_time: bool,
+    table: &mut Table,
     writer: &mut W,
 ) -> Result<(), RunFault> {
-    put_heading(style, buffer);
-    let statistics = run_to_end(run, RunReport::Eras(style), buffer, writer)?;
-    put_last(buffer, &statistics, style);
-    send_buffer(buffer, writer)
+    RunStatistics::new(run.machine())
+        .era("")
+        .fill(has_time, table);
+    table.end_heading();
+    let statistics = run_to_end(run, RunReport::Eras(has_time), table, writer)?;
+    put_last(table, &statistics, has_time);
+    send_table(table, writer)
 }
 
 /// Runs a bench or a scenario, and writes for each era when it began and why, how long it lasted,
 /// how many requests were served and jobs begun and ended in it, the most core sets, VAC areas and
 /// places of the Waitlist that were in use at once and since when, and what ended it; of a scenario
 /// also the percentage of its ticks at which no job was running, and how many seconds the jobs had
-/// computed that were lost as it ended; as comma-separated values, if that is asked. The writer is
-/// not flushed.
+/// computed that were lost as it ended. The writer is not flushed.
 ///
 /// # Errors
 ///
@@ -47,14 +51,10 @@ fn put_eras<W: Write>(
 pub fn write_peaks<W: Write>(
     alloc: Global,
     subject: Subject<'_>,
-    csv: bool,
+    form: TableForm,
     writer: &mut W,
 ) -> Result<(), RunFault> {
     let mut run = subject.run(alloc)?;
-    let style = Style {
-        has_time: subject.timing().is_some(),
-        csv,
-    };
-    let mut buffer = Buffer::new(alloc)?;
-    put_eras(&mut run, style, &mut buffer, writer)
+    let mut table = Table::new(alloc, form)?;
+    put_eras(&mut run, subject.timing().is_some(), &mut table, writer)
 }

@@ -24,6 +24,18 @@ pub(crate) struct RunPeaks {
 }
 
 impl RunPeaks {
+    /// Those of no era.
+    pub(crate) fn none() -> RunPeaks {
+        RunPeaks {
+            code: "",
+            at: 0,
+            alarms: 0,
+            sets: 0,
+            areas: 0,
+            tasks: 0,
+        }
+    }
+
     /// Adds an era that has ended.
     fn include(&mut self, era: &Era) {
         self.sets = self.sets.max(era.sets.count);
@@ -71,14 +83,7 @@ impl RunStatistics {
             occupancy,
             computed: ComputedByJob::new(),
             era: Era::new(1, 0, "start", occupancy),
-            peaks: RunPeaks {
-                code: "",
-                at: 0,
-                alarms: 0,
-                sets: 0,
-                areas: 0,
-                tasks: 0,
-            },
+            peaks: RunPeaks::none(),
         }
     }
 

@@ -4,14 +4,15 @@ ghost use Rattle.std.specs.List.{fold};
 ghost use Rattle.agc_machine.specs.Machines.{after};
 ghost use Rattle.agc_run.specs.Runs.{to_ask};
 
-use crate::era::{Era, Style};
+use crate::era::Era;
 use crate::occupancy::occupancy_of;
 use crate::run_statistics::RunStatistics;
 use agc_document::put_script_line;
 use agc_plan::Request;
 use agc_run::{Run, Subject};
 use agc_session::RunFault;
-use agc_text::{Buffer, Output, TextWriter};
+use agc_table::{Table, TableForm};
+use agc_text::{Output, TextWriter};
 use std::alloc::Global;
 use std::io;
 use std::io::Write;
@@ -20,25 +21,26 @@ use std::io::Write;
 #[derive(Clone, Copy)]
 pub(crate) enum RunReport {
     Nothing,
-    /// The row of the era that ended with it.
-    Eras(Style),
+    /// The row of the era that ended with it; and whether time passes by itself.
+    Eras(bool),
     /// Itself, as a line of a script.
     Requests,
 }
 
 impl RunReport {
     /// Adds the row of an era that ended with a request, if eras are written.
-    fn put(self, ended: Option<Era>, buffer: &mut Buffer) {
-        if let (RunReport::Eras(style), Some(era)) = (self, ended) {
-            era.put(style, buffer);
+    fn put(self, ended: Option<Era>, table: &mut Table) {
+        if let (RunReport::Eras(has_time), Some(era)) = (self, ended) {
+            era.fill(has_time, table);
+            table.end_row();
         }
     }
 
-    /// Writes a draft, or a request, if requests are written.
+    /// Writes the lines of a table, or a request, if requests are written.
     fn write<W: Write>(
         self,
         request: &Request,
-        buffer: &mut Buffer,
+        table: &mut Table,
         writer: &mut W,
     ) -> Result<(), Output> {
         match self {
@@ -47,17 +49,17 @@ impl RunReport {
                 put_script_line(&mut pen, request);
                 pen.end()
             }
-            RunReport::Nothing | RunReport::Eras(_) => buffer.send(writer),
+            RunReport::Nothing | RunReport::Eras(_) => table.send(writer),
         }
     }
 }
 
 /// Makes all requests of a run, in order, and no others, and counts their outcomes. It first writes
-/// the draft, and then the lines of requests. Returns the statistics.
+/// the lines of the table, and then those of requests. Returns the statistics.
 pub(crate) fn run_to_end<W: Write>(
     run: &mut Run<'_>,
     report: RunReport,
-    buffer: &mut Buffer,
+    table: &mut Table,
     writer: &mut W,
 ) -> Result<RunStatistics, Output>
     ensures { IfOk result (λ _. run.new.machine
@@ -70,8 +72,8 @@ pub(crate) fn run_to_end<W: Write>(
         let occupancy = occupancy_of(run.words_left(&answer));
         let ended = statistics.note_answer(run.machine(), &asked.request, occupancy, &answer);
         statistics.keep(run.clock());
-        report.put(ended, buffer);
-        report.write(&asked.request, buffer, writer)?;
+        report.put(ended, table);
+        report.write(&asked.request, table, writer)?;
     }
     Ok(statistics)
 }
@@ -81,8 +83,8 @@ pub(crate) fn statistics_without_report(
     alloc: Global,
     run: &mut Run<'_>,
 ) -> Result<RunStatistics, RunFault> {
-    let mut buffer = Buffer::new(alloc)?;
-    let statistics = run_to_end(run, RunReport::Nothing, &mut buffer, &mut io::sink())?;
+    let mut table = Table::new(alloc, TableForm::Csv)?;
+    let statistics = run_to_end(run, RunReport::Nothing, &mut table, &mut io::sink())?;
     Ok(statistics)
 }
 
@@ -95,7 +97,7 @@ pub(crate) fn statistics_of(
     statistics_without_report(alloc, &mut run)
 }
 
-/// Writes a draft.
-pub(crate) fn send_buffer<W: Write>(buffer: &mut Buffer, writer: &mut W) -> Result<(), RunFault> {
-    Ok(buffer.send(writer)?)
+/// Writes the lines of a table.
+pub(crate) fn send_table<W: Write>(table: &mut Table, writer: &mut W) -> Result<(), RunFault> {
+    Ok(table.send(writer)?)
 }

@@ -1,23 +1,23 @@
 //! The outcome of a document's run, for comparing it with another's.
 use crate::job_statistics::AddressStatistics;
 use crate::jobs::job_statistics_of;
-use crate::jobs_rows::{cells, deadline_cells, name_at};
-use crate::run_statistics::{RunPeaks, RunStatistics};
+use crate::jobs_rows::{fill_deadline, fill_times, name_at};
+use crate::run_statistics::RunStatistics;
 use crate::running::statistics_of;
 use agc_run::Subject;
 use agc_scenario::Timing;
 use agc_session::RunFault;
-use agc_text::Field;
+use agc_table::{Row, right};
+use agc_text::Field::{Number, Seconds, Text};
 use std::alloc::{AllocError, Global};
 
 /// The statistics of an address's jobs: its name, if a scenario gives one, the address, and the
-/// values of the columns of `jobs`.
+/// columns of `jobs`.
 #[derive(Drop)]
 pub(crate) struct JobsSummary {
     pub(crate) name: Option<String>,
     pub(crate) at: u16,
-    pub(crate) cells: [Field<'static>; 12],
-    pub(crate) deadline: [Field<'static>; 2],
+    pub(crate) row: Row,
 }
 
 impl JobsSummary {
@@ -31,14 +31,10 @@ impl JobsSummary {
     }
 }
 
-/// The outcome of a document's run.
+/// The outcome of a document's run: its totals, and its jobs.
 #[derive(Drop)]
 pub struct RunSummary {
-    pub(crate) time: u64,
-    pub(crate) asked: u64,
-    pub(crate) refused: u64,
-    pub(crate) eras: u64,
-    pub(crate) peaks: RunPeaks,
+    pub(crate) totals: Row,
     pub(crate) jobs: Vec<JobsSummary>,
 }
 
@@ -52,13 +48,14 @@ fn jobs_of(
         None => None,
         Some(name) => Some(String::from_str(alloc, name)?),
     };
-    let unknown = if timing.is_none() { Some("-") } else { None };
-    Ok(JobsSummary {
+    let mut summary = JobsSummary {
         name,
         at: row.at,
-        cells: cells(row, unknown),
-        deadline: deadline_cells(row, ["-", "-"]),
-    })
+        row: Row::new(alloc)?,
+    };
+    fill_times(&mut summary.row, row, timing.is_some());
+    fill_deadline(&mut summary.row, row);
+    Ok(summary)
 }
 
 /// Adds the statistics of the jobs of each address.
@@ -89,6 +86,25 @@ fn all_jobs(alloc: Global, subject: Subject<'_>) -> Result<Vec<JobsSummary>, Run
     }
 }
 
+/// Adds a run's totals to a row.
+fn fill_totals(row: &mut Row, statistics: &RunStatistics) {
+    let peaks = statistics.peaks();
+    let first = match peaks.alarms {
+        0 => (Text("none"), None),
+        _ => (Text(peaks.code), Some(Seconds(peaks.at))),
+    };
+    row.cell(right("seconds", "", 0), Seconds(statistics.time));
+    row.cell(right("requests", "", 0), Number(statistics.asked));
+    row.cell(right("refused", "", 0), Number(statistics.refused));
+    row.cell(right("eras", "", 0), Number(statistics.era("").number));
+    row.cell(right("alarms", "", 0), Number(peaks.alarms));
+    row.cell(right("first alarm", "", 0), first.0);
+    row.option(right("first alarm at", "", 0), first.1);
+    row.cell(right("most core sets", "", 0), Number(peaks.sets));
+    row.cell(right("most VAC areas", "", 0), Number(peaks.areas));
+    row.cell(right("most tasks", "", 0), Number(peaks.tasks));
+}
+
 /// The outcome of a bench or a scenario.
 ///
 /// # Errors
@@ -97,12 +113,7 @@ fn all_jobs(alloc: Global, subject: Subject<'_>) -> Result<Vec<JobsSummary>, Run
 pub fn summary_of(alloc: Global, subject: Subject<'_>) -> Result<RunSummary, RunFault> {
     let statistics = statistics_of(alloc, subject)?;
     let jobs = all_jobs(alloc, subject)?;
-    Ok(RunSummary {
-        time: statistics.time,
-        asked: statistics.asked,
-        refused: statistics.refused,
-        eras: statistics.era("").number,
-        peaks: statistics.peaks(),
-        jobs,
-    })
+    let mut totals = Row::new(alloc)?;
+    fill_totals(&mut totals, &statistics);
+    Ok(RunSummary { totals, jobs })
 }

@@ -1,11 +1,12 @@
 //! A scenario's run for each value of one of its numbers.
-use crate::rows::{put_names, put_peaks};
 use crate::run_statistics::RunPeaks;
 use crate::running::statistics_without_report;
 use agc_run::{PendingRequests, Run};
 use agc_scenario::{Number, Scenario};
 use agc_session::{Progress, RunFault, machine_on};
-use agc_text::Buffer;
+use agc_table::{Row, Table, TableForm, left, right};
+use agc_text::Field;
+use agc_text::Field::{Seconds, Text};
 use agc_word::Sets;
 use std::alloc::{AllocError, Global};
 use std::io::Write;
@@ -108,14 +109,30 @@ pub(crate) fn values_of(axes: &[Axis<'_>], run: u64) -> [u64; 2] {
     }
 }
 
-/// A sweep: its numbers, whether its rows are comma-separated values, and the text to be written
-/// next.
+/// Adds the values of a run, and its peaks, to a row; a text in place of no alarm.
+fn fill(row: &mut Row, axes: &[Axis<'_>], values: &[u64], peaks: &RunPeaks, none: Option<Field>) {
+    for (axis, value) in axes.iter().zip(values.iter()) {
+        let width = axis.name.chars().count().max(10);
+        row.cell(right(axis.name, axis.name, width), Field::Number(*value));
+    }
+    let (alarm, at) = match peaks.alarms {
+        0 => (none, None),
+        _ => (Some(Text(peaks.code)), Some(Seconds(peaks.at))),
+    };
+    row.option(left("alarm", "alarm", 5), alarm);
+    row.option(right("at", "at", 9), at);
+    row.cell(right("alarms", "alarms", 6), Field::Number(peaks.alarms));
+    row.cell(right("sets", "most_sets", 4), Field::Number(peaks.sets));
+    row.cell(right("areas", "most_areas", 5), Field::Number(peaks.areas));
+    row.cell(right("tasks", "most_tasks", 5), Field::Number(peaks.tasks));
+}
+
+/// A sweep: its numbers, and its table.
 #[derive(Drop)]
 pub(crate) struct SweepWriter<'a> {
     alloc: Global,
     pub(crate) axes: &'a [Axis<'a>],
-    pub(crate) csv: bool,
-    pub(crate) buffer: Buffer,
+    pub(crate) table: Table,
 }
 
 impl<'a> SweepWriter<'a> {
@@ -123,29 +140,33 @@ impl<'a> SweepWriter<'a> {
     pub(crate) fn new(
         alloc: Global,
         axes: &'a [Axis<'a>],
-        csv: bool,
+        form: TableForm,
     ) -> Result<SweepWriter<'a>, AllocError> {
-        let mut buffer = Buffer::new(alloc)?;
-        put_names(&mut buffer, axes, csv);
-        Ok(SweepWriter {
+        let mut sweep = SweepWriter {
             alloc,
             axes,
-            csv,
-            buffer,
-        })
+            table: Table::new(alloc, form)?,
+        };
+        sweep.fill(&[0, 0], &RunPeaks::none());
+        sweep.table.end_heading();
+        Ok(sweep)
     }
 
-    /// Runs the scenario for a run of the sweep, counted from 0, and adds its row. Returns the
-    /// peaks.
-    pub(crate) fn put_run(
-        &mut self,
-        scenario: &mut Scenario,
-        run: u64,
-    ) -> Result<RunPeaks, RunFault> {
-        let values = values_of(self.axes, run);
-        let peaks = peaks_with(self.alloc, scenario, self.axes, &values)?;
-        put_peaks(&mut self.buffer, self.axes, self.csv, &values, &peaks);
-        Ok(peaks)
+    /// Adds the cells of a run.
+    fn fill(&mut self, values: &[u64], peaks: &RunPeaks) {
+        let none = Some(Text("none")).filter(|_none| self.table.is_text());
+        fill(&mut self.table.row, self.axes, values, peaks, none);
+    }
+
+    /// Adds the row of a run of the sweep, counted from 0.
+    pub(crate) fn put(&mut self, run: u64, peaks: &RunPeaks) {
+        self.fill(&values_of(self.axes, run), peaks);
+        self.table.end_row();
+    }
+
+    /// Runs the scenario for a run of the sweep, counted from 0. Returns the peaks.
+    pub(crate) fn run(&self, scenario: &mut Scenario, run: u64) -> Result<RunPeaks, RunFault> {
+        peaks_with(self.alloc, scenario, self.axes, &values_of(self.axes, run))
     }
 
     /// Writes the row of each run.
@@ -158,8 +179,9 @@ impl<'a> SweepWriter<'a> {
         let count = runs_of(self.axes);
         progress.expect(count);
         for run in 0..count {
-            let _found = self.put_run(scenario, run)?;
-            self.buffer.send(writer)?;
+            let peaks = self.run(scenario, run)?;
+            self.put(run, &peaks);
+            self.table.send(writer)?;
             progress.done();
         }
         Ok(())
@@ -169,8 +191,7 @@ impl<'a> SweepWriter<'a> {
 /// Runs a scenario once for each value of a number, or for each value of one with each of a second,
 /// and writes a row for each: the values, the first alarm and the second at which it came, how many
 /// alarms came, and the most core sets, VAC areas and places of the Waitlist that were taken at
-/// once; as comma-separated values, if these are asked for. The numbers keep their last values. The
-/// writer is not flushed.
+/// once. The numbers keep their last values. The writer is not flushed.
 ///
 /// # Errors
 ///
@@ -179,10 +200,10 @@ pub fn run_sweep<P: Progress, W: Write>(
     alloc: Global,
     scenario: &mut Scenario,
     axes: &[Axis<'_>],
-    csv: bool,
+    form: TableForm,
     progress: &mut P,
     writer: &mut W,
 ) -> Result<(), RunFault> {
-    let mut sweep = SweepWriter::new(alloc, axes, csv)?;
+    let mut sweep = SweepWriter::new(alloc, axes, form)?;
     sweep.run_all(scenario, progress, writer)
 }

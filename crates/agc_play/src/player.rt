@@ -12,6 +12,7 @@ use agc_plan::{Reply, Request};
 use agc_run::{ObservedRun, PendingRequests, Source};
 use agc_scene::{Event, ObservedMachine, Scene};
 use agc_session::{RunFault, machine_of};
+use agc_table::TableForm;
 use agc_text::Field::{Number, Octal, Priority, Text};
 use agc_text::{Buffer, Output};
 use agc_trace::{Columns, Rows, TraceFormat, TraceOptions};
@@ -178,13 +179,17 @@ fn put_rest(buffer: &mut Buffer, scene: &Scene) {
 /// The rows of all requests; on a terminal each is followed by its tables.
 fn rows_of(alloc: Global, folds: bool) -> Result<Rows, AllocError> {
     let choice = TraceOptions {
-        form: TraceFormat::Lines,
+        form: TraceFormat::Rows(if folds {
+            TableForm::Narrow
+        } else {
+            TableForm::Wide
+        }),
         alarms: false,
         from: None,
         to: None,
         brief: false,
     };
-    Rows::new(alloc, choice, Columns::of_play(alloc, folds))
+    Rows::new(alloc, choice, Columns::of_bench(alloc, false))
 }
 
 impl Player {

@@ -30,19 +30,20 @@ fn put_raiser(page: &mut Page, plan: &Plan, task: Task, number: usize) {
     let actions = plan.actions(&task);
     if actions.len() > 1 {
         let number = [Number(number as u64)];
-        page.buffer
+        page.table
+            .lines
             .put("        raised by action {} of task ", &number);
     } else {
-        page.buffer.text("        raised by task ");
+        page.table.lines.text("        raised by task ");
     }
-    page.columns.put_task(&mut page.buffer, task);
+    page.columns.put_task(&mut page.table.lines, task);
     match actions.get(number.saturating_sub(1)) {
-        None => page.buffer.text(": \n"),
+        None => page.table.lines.text(": \n"),
         Some(action) => match action_request(*action) {
-            None => page.buffer.text(": nothing\n"),
+            None => page.table.lines.text(": nothing\n"),
             Some(request) => {
                 let text = request_text(&request);
-                page.buffer.put(": {}\n", &[Text(text.as_str())]);
+                page.table.lines.put(": {}\n", &[Text(text.as_str())]);
             }
         },
     }
@@ -82,8 +83,8 @@ fn put_job(buffer: &mut Buffer, columns: &Columns, k: usize, seat: Seat) {
 fn put_jobs(page: &mut Page, event: &Event) {
     for (k, seat) in event.scene.seats().iter().enumerate() {
         if let Some(seat) = *seat {
-            put_job(&mut page.buffer, &page.columns, k, seat);
-            end_known(&mut page.buffer, event.jobs.of_job(seat.number));
+            put_job(&mut page.table.lines, &page.columns, k, seat);
+            end_known(&mut page.table.lines, event.jobs.of_job(seat.number));
         }
     }
 }
@@ -91,12 +92,12 @@ fn put_jobs(page: &mut Page, event: &Event) {
 /// Adds the lines of all tasks that wait.
 fn put_tasks(page: &mut Page, event: &Event) {
     for (k, wait) in event.scene.waits().iter().enumerate() {
-        page.buffer.text("          task ");
-        page.columns.put_task(&mut page.buffer, wait.task);
+        page.table.lines.text("          task ");
+        page.columns.put_task(&mut page.table.lines, wait.task);
         let distance = Number(u64::from(wait.distance));
-        page.buffer.put(", due in {} cs", &[distance]);
+        page.table.lines.put(", due in {} cs", &[distance]);
         let since = event.tasks.as_slice().get(k).map(|one| one.since);
-        end_known(&mut page.buffer, since);
+        end_known(&mut page.table.lines, since);
     }
 }
 
@@ -106,9 +107,9 @@ pub(crate) fn put_account(page: &mut Page, plan: &Plan, event: &Event) {
     let Some(alarm) = event.alarm() else {
         return;
     };
-    page.buffer.text("        ");
-    put_full(&mut page.buffer, alarm, &event.scene);
-    page.buffer.text("\n");
+    page.table.lines.text("        ");
+    put_full(&mut page.table.lines, alarm, &event.scene);
+    page.table.lines.text("\n");
     if let Some(task) = event.fired.get(event.fired.len().saturating_sub(1)) {
         put_raiser(page, plan, task, event.raised);
     }
@@ -117,10 +118,6 @@ pub(crate) fn put_account(page: &mut Page, plan: &Plan, event: &Event) {
         Alarm::A1203 => put_tasks(page, event),
     }
     if let Some(era) = &event.era {
-        let phases = event.scene.phases();
-        page.columns.put_phases(&mut page.row.text, &phases);
-        page.row.end_front();
-        page.put_tables(era);
-        page.put_row();
+        page.put_era(&event.scene, era);
     }
 }

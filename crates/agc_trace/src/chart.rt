@@ -1,5 +1,4 @@
 // A chart as browsers open it: the events of tracks, in JSON.
-use crate::json::put_source;
 use crate::lanes::{AREAS, LANES, Lanes, TASKS, TrackContent, is_same, lanes_of};
 use crate::names::ItemKind;
 use crate::page::Page;
@@ -79,7 +78,7 @@ fn put_name(buffer: &mut Buffer, name: Option<&str>, at: u16, asleep: bool) {
 
 /// Adds the contents of a lane: their name, and further members.
 fn put_content(page: &mut Page, held: &TrackContent) {
-    let (buffer, names) = (&mut page.buffer, &page.columns.names);
+    let (buffer, names) = (&mut page.table.lines, &page.columns.names);
     match *held {
         TrackContent::Job {
             number,
@@ -106,6 +105,16 @@ fn put_content(page: &mut Page, held: &TrackContent) {
     buffer.text("}}");
 }
 
+/// Adds who asks, as a value.
+fn put_source(page: &mut Page, source: Source) {
+    page.table.lines.text("\"");
+    match page.columns.event(source) {
+        None => page.columns.put_source(&mut page.table.lines, source),
+        Some(name) => page.table.lines.add(Json(name)),
+    }
+    page.table.lines.text("\"");
+}
+
 impl Chart {
     /// A chart without events.
     pub(crate) fn new() -> Chart {
@@ -123,12 +132,12 @@ impl Chart {
         for lane in 0..LANES {
             if !is_same(&self.lanes[lane], &lanes[lane]) {
                 if self.lanes[lane].is_some() {
-                    begin_event(&mut page.buffer, "E", track_of(lane), self.now);
-                    page.buffer.text("}");
+                    begin_event(&mut page.table.lines, "E", track_of(lane), self.now);
+                    page.table.lines.text("}");
                 }
                 if let Some(held) = &lanes[lane] {
-                    begin_event(&mut page.buffer, "B", track_of(lane), self.now);
-                    page.buffer.text(",\"name\":\"");
+                    begin_event(&mut page.table.lines, "B", track_of(lane), self.now);
+                    page.table.lines.text(",\"name\":\"");
                     put_content(page, held);
                 }
             }
@@ -157,7 +166,7 @@ impl Chart {
             count_taken(&lanes, AREAS, TASKS),
         );
         let counts = [sets, areas, count_taken(&lanes, TASKS, LANES), self.stolen];
-        self.put_counts(&mut page.buffer, &counts);
+        self.put_counts(&mut page.table.lines, &counts);
     }
 
     /// Notes how many hundredths of a centisecond have passed on a clock after this request: with a
@@ -174,9 +183,9 @@ impl Chart {
     /// Adds the heading, and the first scene, if there is one to show.
     pub(crate) fn begin(&mut self, page: &mut Page, scene: Option<&Scene>) {
         let title = page.columns.names.of(ItemKind::Title).unwrap_or("AGC");
-        page.buffer.put(HEADING, &[Json(title)]);
+        page.table.lines.put(HEADING, &[Json(title)]);
         for lane in 0..LANES {
-            put_track(&mut page.buffer, lane);
+            put_track(&mut page.table.lines, lane);
         }
         if let Some(scene) = scene {
             self.put_scene(page, scene, 0);
@@ -185,18 +194,18 @@ impl Chart {
 
     /// Adds that an era begins with a request.
     fn put_era(&mut self, page: &mut Page, source: Source, event: &Event) {
-        begin_event(&mut page.buffer, "i", 1, self.now);
-        page.buffer.text(",\"s\":\"p\",\"name\":\"");
+        begin_event(&mut page.table.lines, "i", 1, self.now);
+        page.table.lines.text(",\"s\":\"p\",\"name\":\"");
         match event.alarm() {
-            None => page.buffer.text(request_text(&event.request).as_str()),
-            Some(alarm) => page.buffer.fill("alarm ", Text(alarm_code(alarm))),
+            None => page.table.lines.text(request_text(&event.request).as_str()),
+            Some(alarm) => page.table.lines.fill("alarm ", Text(alarm_code(alarm))),
         }
-        page.buffer.put(
+        page.table.lines.put(
             "\",\"args\":{\"request\":{},\"by\":",
             &[Number(event.number)],
         );
         put_source(page, source);
-        page.buffer.text("}}");
+        page.table.lines.text("}}");
         self.put_lanes(page, &[None; LANES]);
     }
 
@@ -214,6 +223,6 @@ impl Chart {
     /// Ends the events of all lanes, and the chart.
     pub(crate) fn end(&mut self, page: &mut Page) {
         self.put_lanes(page, &[None; LANES]);
-        page.buffer.text("\n]}\n");
+        page.table.lines.text("\n]}\n");
     }
 }

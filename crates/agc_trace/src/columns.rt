@@ -15,12 +15,11 @@ const MOST_LETTERS: usize = 24;
 const SOURCE_WIDTH: usize = 9;
 
 /// The columns of rows: the width of the one that says who asks, if there is one; whether times are
-/// in seconds; whether each row is followed by its tables; and the names that are shown.
+/// in seconds; and the names that are shown.
 #[derive(Drop)]
 pub struct Columns {
-    source: Option<usize>,
-    has_seconds: bool,
-    pub(crate) folds: bool,
+    pub(crate) source: Option<usize>,
+    pub(crate) has_seconds: bool,
     pub(crate) names: Names,
 }
 
@@ -48,18 +47,6 @@ impl Columns {
                 None
             },
             has_seconds: false,
-            folds: false,
-            names: Names::none(alloc),
-        }
-    }
-
-    /// The columns for playing; on a terminal each row is followed by its tables, each with its
-    /// name.
-    pub fn of_play(alloc: Global, folds: bool) -> Columns {
-        Columns {
-            source: None,
-            has_seconds: false,
-            folds,
             names: Names::none(alloc),
         }
     }
@@ -72,7 +59,6 @@ impl Columns {
         Ok(Columns {
             source: Some(source_width(&names, events)),
             has_seconds: true,
-            folds: false,
             names,
         })
     }
@@ -85,15 +71,6 @@ impl Columns {
                 Ok(Columns::of_bench(alloc, count_requests(bench).is_shared))
             }
             Subject::Scenario(scenario) => Columns::of_scenario(alloc, scenario),
-        }
-    }
-
-    /// The width of a column in front of the tables, counted from 0, if there is one.
-    pub(crate) fn width(&self, column: usize) -> Option<usize> {
-        match column {
-            0..=2 => Some(8),
-            3 => self.source,
-            _ => Some(22),
         }
     }
 

@@ -1,6 +1,6 @@
 // The first and the last lines of a trace: before the first request, power-up; after the last one,
 // how many requests were refused, and which pulses make no requests.
-use crate::page::Page;
+use crate::page::{Page, Told};
 use agc_document::Bench;
 use agc_phase::recover;
 use agc_scene::Scene;
@@ -35,7 +35,7 @@ fn put_broken(buffer: &mut Buffer, words: &[Word; 12]) {
 }
 
 /// The reply to power-up with these phase words.
-pub(crate) fn power_reply(words: &[Word; 12]) -> &'static str {
+fn power_reply(words: &[Word; 12]) -> &'static str {
     if recover(words).is_some() {
         "restarted"
     } else {
@@ -45,12 +45,16 @@ pub(crate) fn power_reply(words: &[Word; 12]) -> &'static str {
 
 /// Adds the outcome of power-up with these phase words: the scene with which the first era begins.
 pub(crate) fn put_power(page: &mut Page, words: &[Word; 12], scene: &Scene) {
-    page.put_power(power_reply(words), scene);
-    if recover(words).is_none() {
-        put_broken(&mut page.buffer, words);
+    page.put(Told::Power(power_reply(words)), scene);
+    if !page.table.is_text() {
+        return;
     }
-    page.columns.put_phases(&mut page.buffer, &scene.phases());
-    page.buffer.text("\n");
+    if recover(words).is_none() {
+        put_broken(&mut page.table.lines, words);
+    }
+    page.columns
+        .put_phases(&mut page.table.lines, &scene.phases());
+    page.table.lines.text("\n");
 }
 
 /// How many requests were refused, for each reason.

@@ -1,21 +1,38 @@
 // A part of a trace that is written at once, with its rows.
 use crate::columns::Columns;
+use crate::json;
 use crate::names::ItemKind;
-use crate::row::Row;
 use agc_exec::Seat;
 use agc_run::Source;
 use agc_scene::{Event, Scene};
-use agc_text::Field::{Bytes, Number, Octal, Priority, Text};
-use agc_text::{Buffer, Output, answer_text, request_text};
+use agc_table::{Row, Table, TableForm, left};
+use agc_text::Field::{Bytes, Number, Octal, Priority, Seconds, Text};
+use agc_text::{Buffer, Output, alarm_code, answer_text, request_text};
 use std::alloc::{AllocError, Global};
 use std::io::Write;
 
-/// A part of a trace that is written at once, the row that is being filled, and its columns.
+/// The columns of core sets and areas in CSV.
+const SETS: [&str; 8] = [
+    "set0", "set1", "set2", "set3", "set4", "set5", "set6", "set7",
+];
+
+const AREAS: [&str; 5] = ["area1", "area2", "area3", "area4", "area5"];
+
+/// The events that rows are about: power-up, with this reply, or a request.
+#[derive(Clone, Copy)]
+pub(crate) enum Told<'a> {
+    Power(&'static str),
+    Request(Source, &'a Event),
+}
+
+/// A part of a trace that is written at once: its table, its columns, and the rows of an object of
+/// JSON within a row, and of one within that.
 #[derive(Drop)]
 pub(crate) struct Page {
-    pub(crate) buffer: Buffer,
-    pub(crate) row: Row,
+    pub(crate) table: Table,
     pub(crate) columns: Columns,
+    inner: Row,
+    item: Row,
 }
 
 /// Adds the job of a core set and its priority, in brackets if it sleeps, and after `>` if NEWJOB
@@ -45,14 +62,83 @@ fn put_waits(buffer: &mut Buffer, columns: &Columns, scene: &Scene) {
     }
 }
 
+/// Adds a column of CSV with a job's name or, if it has none, its address.
+fn fill_job(row: &mut Row, columns: &Columns, key: &'static str, seat: Option<Seat>) {
+    let job = seat.map(|seat| match columns.names.of(ItemKind::Job(seat.at)) {
+        None => Octal(seat.at),
+        Some(name) => Text(name),
+    });
+    row.option(left("", key, 0), job.or(Some(Text(""))));
+}
+
+/// The job that owns an area, from its core set.
+fn owner(scene: &Scene, area: u16) -> Option<Seat> {
+    let seats = scene.seats().iter().flatten();
+    seats.copied().find(|seat| seat.area == area)
+}
+
+/// Adds the columns of a scene in CSV: the running job and its priority, how many core sets, VAC
+/// areas and tasks are taken, and the jobs in core sets and areas.
+fn fill_values(row: &mut Row, columns: &Columns, scene: &Scene) {
+    let jobs = || scene.seats().iter().flatten();
+    let areas = jobs().filter(|seat| seat.area > 0).count();
+    let (number, priority) = match (scene.running(), scene.seats()) {
+        (Some(number), [Some(seat), ..]) => {
+            let number = Number(u64::from(number.get()));
+            (Some(number), Some(Priority(seat.priority)))
+        }
+        _ => (None, None),
+    };
+    row.option(left("", "running", 0), number);
+    row.option(left("", "priority", 0), priority);
+    row.cell(left("", "sets", 0), Number(jobs().count() as u64));
+    row.cell(left("", "areas", 0), Number(areas as u64));
+    let tasks = Number(scene.waits().len() as u64);
+    row.cell(left("", "tasks", 0), tasks);
+    for (k, key) in SETS.iter().enumerate() {
+        let seat = scene.seats().get(k).copied().flatten();
+        fill_job(row, columns, key, seat);
+    }
+    for (area, key) in (1..6u16).zip(AREAS.iter()) {
+        fill_job(row, columns, key, owner(scene, area));
+    }
+}
+
+/// Adds the tables of a scene in text.
+fn fill_tables(row: &mut Row, columns: &Columns, scene: &Scene) {
+    let running = scene.running().map(|job| Number(u64::from(job.get())));
+    row.cell(left("running", "", 7), running.unwrap_or(Text("-")));
+    for seat in scene.seats() {
+        match *seat {
+            None => row.text.text(" ."),
+            Some(seat) => put_seat(&mut row.text, columns, scene.next_job(), seat),
+        }
+    }
+    row.end(left(" sets", "", 56));
+    for area in 1..6u16 {
+        match scene.owner(area) {
+            None => row.text.text(" ."),
+            Some(number) => row.text.fill(" ", Number(u64::from(number))),
+        }
+    }
+    row.end(left(" areas", "", 10));
+    put_waits(&mut row.text, columns, scene);
+    row.end(left(" tasks", "", 0));
+}
+
 impl Page {
     /// An empty page.
-    pub(crate) fn new(alloc: Global, columns: Columns) -> Result<Page, AllocError> {
-        match (Buffer::new(alloc), Row::new(alloc)) {
-            (Ok(buffer), Ok(row)) => Ok(Page {
-                buffer,
-                row,
+    pub(crate) fn new(
+        alloc: Global,
+        columns: Columns,
+        form: TableForm,
+    ) -> Result<Page, AllocError> {
+        match (Table::new(alloc, form), Row::new(alloc), Row::new(alloc)) {
+            (Ok(table), Ok(inner), Ok(item)) => Ok(Page {
+                table,
                 columns,
+                inner,
+                item,
             }),
             _ => Err(AllocError),
         }
@@ -60,88 +146,140 @@ impl Page {
 
     /// Writes the page, and empties it.
     pub(crate) fn send<W: Write>(&mut self, writer: &mut W) -> Result<(), Output> {
-        self.row.text.end()?;
-        self.buffer.send(writer)
+        self.table.send(writer)
     }
 
-    /// Adds the row that was filled.
-    pub(crate) fn put_row(&mut self) {
-        self.row.put(&mut self.buffer, &self.columns);
+    /// Adds who asks; nobody does at power-up.
+    fn fill_source(&mut self, told: Told<'_>) {
+        let is_text = self.table.is_text();
+        let by = left("by", "by", self.columns.source.unwrap_or(0));
+        let row = &mut self.table.row;
+        match told {
+            Told::Power(_) if is_text => row.cell(by, Text("")),
+            Told::Power(_) => row.option(by, None),
+            Told::Request(source, _) => match self.columns.event(source) {
+                Some(name) if !is_text => row.cell(by, Text(name)),
+                _ => {
+                    self.columns.put_source(&mut row.text, source);
+                    row.end(by);
+                }
+            },
+        }
     }
 
-    /// Adds the tables of a scene to the row.
-    pub(crate) fn put_tables(&mut self, scene: &Scene) {
-        self.row.cell(match scene.running() {
-            None => Text("-"),
-            Some(number) => Number(u64::from(number.get())),
-        });
-        for seat in scene.seats() {
-            match *seat {
-                None => self.row.text.text(" ."),
-                Some(seat) => put_seat(&mut self.row.text, &self.columns, scene.next_job(), seat),
+    /// Adds the number, which `!` follows in text if the request was refused, and the times.
+    fn fill_times(&mut self, told: Told<'_>) {
+        let is_text = self.table.is_text();
+        let row = &mut self.table.row;
+        let (number, time, total, is_refused) = match told {
+            Told::Power(_) => (0, 0, 0, false),
+            Told::Request(_, event) => {
+                let is_refused = event.answer.is_err();
+                (event.number, event.time, event.total, is_refused)
+            }
+        };
+        if is_text && is_refused {
+            row.text.put("{}!", &[Number(number)]);
+            row.end(left("no", "no", 8));
+        } else {
+            row.cell(left("no", "no", 8), Number(number));
+        }
+        for (name, ticks) in [("time", time), ("total", total)] {
+            let field = if is_text {
+                self.columns.time(ticks)
+            } else {
+                Seconds(ticks)
+            };
+            row.cell(left(name, name, 8), field);
+        }
+    }
+
+    /// Adds the cells in front of the tables.
+    fn fill_front(&mut self, told: Told<'_>) {
+        let has_source = self.columns.source.is_some() || !self.table.is_text();
+        let is_narrow = self.table.form == TableForm::Narrow;
+        self.fill_times(told);
+        if has_source && !is_narrow {
+            self.fill_source(told);
+        }
+        let row = &mut self.table.row;
+        let (request, reply) = (left("request", "request", 22), left("reply", "reply", 28));
+        match told {
+            Told::Power(outcome) => {
+                row.cell(request, Text("power-up"));
+                row.cell(reply, Text(outcome));
+            }
+            Told::Request(_, event) => {
+                row.cell(request, Text(request_text(&event.request).as_str()));
+                let answer = answer_text(&event.answer, &event.fired);
+                row.cell(reply, Bytes(answer.as_slice()));
             }
         }
-        self.row.end();
-        for area in 1..6u16 {
-            match scene.owner(area) {
-                None => self.row.text.text(" ."),
-                Some(number) => self.row.text.fill(" ", Number(u64::from(number))),
+        row.below();
+        if has_source && is_narrow {
+            self.fill_source(told);
+        }
+    }
+
+    /// Adds the cells of a scene.
+    fn fill_scene(&mut self, told: Told<'_>, scene: &Scene) {
+        let (row, columns) = (&mut self.table.row, &self.columns);
+        let event = match told {
+            Told::Power(_) => None,
+            Told::Request(_, event) => Some(event),
+        };
+        let alarm = event.and_then(|event| event.alarm());
+        let alarm = alarm.map(|alarm| Text(alarm_code(alarm)));
+        match self.table.form {
+            TableForm::Wide | TableForm::Narrow => fill_tables(row, columns, scene),
+            TableForm::Csv => {
+                row.option(left("", "alarm", 0), alarm);
+                fill_values(row, columns, scene);
+            }
+            TableForm::JsonLines => {
+                row.option(left("", "alarm", 0), alarm);
+                json::fill_fired(row, &mut self.item, columns, event);
+                json::fill_scene(row, &mut self.item, columns, (scene, event));
+                let era = event.and_then(|event| event.era.as_ref());
+                if let Some(era) = era {
+                    json::fill_scene(&mut self.inner, &mut self.item, columns, (era, None));
+                    self.inner.put_object(&mut row.text);
+                    self.inner.clear();
+                    row.end_plain(left("", "era", 0));
+                } else {
+                    row.option(left("", "era", 0), None);
+                }
             }
         }
-        self.row.end();
-        put_waits(&mut self.row.text, &self.columns, scene);
-        self.row.end();
     }
 
     /// Adds the title, if there is one, and the heading.
-    pub(crate) fn put_heading(&mut self) {
-        if let Some(title) = self.columns.names.of(ItemKind::Title) {
-            self.buffer.put("{}\n", &[Text(title)]);
-        }
-        for name in ["no", "time", "total", "by", "request"] {
-            self.row.cell(Text(name));
-        }
-        self.row.text.text("reply");
-        self.row.end_front();
-        if !self.columns.folds {
-            for name in ["running", " sets", " areas", " tasks"] {
-                self.row.cell(Text(name));
+    pub(crate) fn put_heading(&mut self, scene: &Scene) {
+        if self.table.is_text() {
+            if let Some(title) = self.columns.names.of(ItemKind::Title) {
+                self.table.lines.put("{}\n", &[Text(title)]);
             }
         }
-        self.put_row();
+        self.fill_front(Told::Power(""));
+        self.fill_scene(Told::Power(""), scene);
+        self.table.end_heading();
     }
 
-    /// Adds the row of power-up, with the scene with which the first era begins.
-    pub(crate) fn put_power(&mut self, reply: &str, scene: &Scene) {
-        let time = self.columns.time(0);
-        for cell in [Text("0"), time, time, Text(""), Text("power-up")] {
-            self.row.cell(cell);
-        }
-        self.row.text.text(reply);
-        self.row.end_front();
-        self.put_tables(scene);
-        self.put_row();
+    /// Adds the row of power-up, with the scene with which the first era begins, or of a request.
+    pub(crate) fn put(&mut self, told: Told<'_>, scene: &Scene) {
+        self.fill_front(told);
+        self.fill_scene(told, scene);
+        self.table.end_row();
     }
 
-    /// Adds the row of a request; the number of a refused one is followed by `!`.
-    pub(crate) fn put_event(&mut self, source: Source, event: &Event) {
-        self.row.text.add(Number(event.number));
-        if event.answer.is_err() {
-            self.row.text.text("!");
-        }
-        self.row.end();
-        for time in [event.time, event.total] {
-            self.row.cell(self.columns.time(time));
-        }
-        self.columns.put_source(&mut self.row.text, source);
-        self.row.end();
-        let request = request_text(&event.request);
-        self.row.text.text(request.as_str());
-        self.row.end();
-        let answer = answer_text(&event.answer, &event.fired);
-        self.row.text.add(Bytes(answer.as_slice()));
-        self.row.end_front();
-        self.put_tables(&event.scene);
-        self.put_row();
+    /// Adds a row of the tables with which an era begins, after its phases, those of this scene.
+    pub(crate) fn put_era(&mut self, scene: &Scene, era: &Scene) {
+        let whole = self.columns.front_width();
+        let row = &mut self.table.row;
+        self.columns.put_phases(&mut row.text, &scene.phases());
+        row.end(left("", "", whole));
+        row.below();
+        fill_tables(row, &self.columns, era);
+        self.table.end_row();
     }
 }

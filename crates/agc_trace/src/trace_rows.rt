@@ -3,15 +3,15 @@ use crate::alarms::put_account;
 use crate::brief::{Quiet, quiet_of};
 use crate::chart::Chart;
 use crate::columns::Columns;
-use crate::ends::{RefusalCounts, power_reply, put_idle, put_power, put_refused};
-use crate::page::Page;
-use crate::{csv, json};
+use crate::ends::{RefusalCounts, put_idle, put_power, put_refused};
+use crate::page::{Page, Told};
 use agc_clock::Clock;
 use agc_document::Bench;
 use agc_machine::Refusal;
 use agc_plan::{Reply, Request};
 use agc_run::Source;
 use agc_scene::{Event, ObservedMachine, Scene};
+use agc_table::TableForm;
 use agc_text::Field::{Number, Text};
 use agc_text::Output;
 use agc_word::Word;
@@ -21,12 +21,8 @@ use std::io::Write;
 /// The form of a trace.
 #[derive(Clone, Copy, PartialEq, Eq)]
 pub enum TraceFormat {
-    /// A line of columns for each request, and accounts of alarms.
-    Lines,
-    /// A row of comma-separated values for each request.
-    Csv,
-    /// An object of JSON for each request, in a line each.
-    Json,
+    /// A row for each request, and in text accounts of alarms.
+    Rows(TableForm),
     /// One object of JSON, whose events are a chart.
     Chart,
 }
@@ -37,9 +33,9 @@ pub struct TraceOptions {
     pub form: TraceFormat,
     /// Only those that raised an alarm.
     pub alarms: bool,
-    /// Only those from this number on.
+    /// Only those from here on, in hundredths: of a second in a scenario, or else of a request.
     pub from: Option<u64>,
-    /// Only those up to this number.
+    /// Only those up to here.
     pub to: Option<u64>,
     /// Quiet requests, after which only the time has changed, are counted together if they follow
     /// each other. In forms without lines they are left out.
@@ -47,11 +43,11 @@ pub struct TraceOptions {
 }
 
 impl TraceOptions {
-    /// Whether the request of this number has a row, given whether it raised an alarm.
-    pub fn tells(&self, number: u64, is_alarmed: bool) -> bool {
+    /// Whether the request at this place has a row, given whether it raised an alarm.
+    fn tells(&self, place: u64, is_alarmed: bool) -> bool {
         (is_alarmed || !self.alarms)
-            && self.from.unwrap_or(0) <= number
-            && number <= self.to.unwrap_or(u64::MAX)
+            && self.from.unwrap_or(0) <= place
+            && place <= self.to.unwrap_or(u64::MAX)
     }
 }
 
@@ -90,9 +86,13 @@ impl Rows {
     ///
     /// If memory runs out.
     pub fn new(alloc: Global, choice: TraceOptions, columns: Columns) -> Result<Rows, AllocError> {
+        let form = match choice.form {
+            TraceFormat::Rows(form) => form,
+            TraceFormat::Chart => TableForm::JsonLines,
+        };
         Ok(Rows {
             choice,
-            page: Page::new(alloc, columns)?,
+            page: Page::new(alloc, columns, form)?,
             chart: Chart::new(),
             before: None,
             left: None,
@@ -103,9 +103,9 @@ impl Rows {
     /// Adds the number of quiet requests since the last row, if there are any.
     fn put_left(&mut self) {
         match self.left {
-            Some(QuietRun { quiet, count }) if self.choice.form == TraceFormat::Lines => {
+            Some(QuietRun { quiet, count }) if self.page.table.is_text() => {
                 let told = [Text(quiet.words()), Number(count)];
-                self.page.buffer.put("        {} x {}\n", &told);
+                self.page.table.lines.put("        {} x {}\n", &told);
             }
             _ => {}
         }
@@ -141,9 +141,7 @@ impl Rows {
     /// Adds the heading.
     fn put_heading(&mut self, scene: &Scene) {
         match self.choice.form {
-            TraceFormat::Lines => self.page.put_heading(),
-            TraceFormat::Csv => self.page.buffer.text(csv::NAMES),
-            TraceFormat::Json => {}
+            TraceFormat::Rows(_form) => self.page.put_heading(scene),
             TraceFormat::Chart => {
                 let is_whole = self.choice.from.is_none();
                 let first = if is_whole { Some(scene) } else { None };
@@ -155,9 +153,7 @@ impl Rows {
     /// Adds the outcome of power-up with these phase words.
     fn put_power(&mut self, words: &[Word; 12], scene: &Scene) {
         match self.choice.form {
-            TraceFormat::Lines => put_power(&mut self.page, words, scene),
-            TraceFormat::Csv => csv::put_power(&mut self.page, power_reply(words), scene),
-            TraceFormat::Json => json::put_power(&mut self.page, power_reply(words), scene),
+            TraceFormat::Rows(_form) => put_power(&mut self.page, words, scene),
             TraceFormat::Chart => {}
         }
     }
@@ -190,12 +186,12 @@ impl Rows {
     /// Adds the row of an event, or what a chart shows of it.
     fn put_row_of(&mut self, watched: &ObservedMachine, source: Source, event: &Event) {
         match self.choice.form {
-            TraceFormat::Lines => {
-                self.page.put_event(source, event);
-                put_account(&mut self.page, watched.machine().plan(), event);
+            TraceFormat::Rows(_form) => {
+                self.page.put(Told::Request(source, event), &event.scene);
+                if self.page.table.is_text() {
+                    put_account(&mut self.page, watched.machine().plan(), event);
+                }
             }
-            TraceFormat::Csv => csv::put_event(&mut self.page, source, event),
-            TraceFormat::Json => json::put_event(&mut self.page, source, event),
             TraceFormat::Chart => self.chart.tell(&mut self.page, source, event),
         }
     }
@@ -215,7 +211,12 @@ impl Rows {
     /// is chosen.
     pub fn add(&mut self, watched: &ObservedMachine, source: Source, event: &Event) {
         self.count_refused(&event.answer);
-        if self.choice.tells(event.number, event.alarm().is_some()) {
+        let place = if self.page.columns.has_seconds {
+            event.total
+        } else {
+            event.number.saturating_mul(100)
+        };
+        if self.choice.tells(place, event.alarm().is_some()) {
             self.put_event(watched, source, event);
         }
         self.keep_scene(watched);
@@ -235,13 +236,13 @@ impl Rows {
     pub fn end(&mut self, bench: Option<&Bench>) {
         self.put_left();
         match self.choice.form {
-            TraceFormat::Lines => {
-                put_refused(&mut self.page.buffer, self.refused, bench);
+            TraceFormat::Rows(_form) if self.page.table.is_text() => {
+                put_refused(&mut self.page.table.lines, self.refused, bench);
                 if let Some(bench) = bench {
-                    put_idle(&mut self.page.buffer, bench);
+                    put_idle(&mut self.page.table.lines, bench);
                 }
             }
-            TraceFormat::Csv | TraceFormat::Json => {}
+            TraceFormat::Rows(_form) => {}
             TraceFormat::Chart => self.chart.end(&mut self.page),
         }
     }

@@ -63,11 +63,33 @@ const SILENT: Argument = ("progress", ArgumentKind::Silent, "");
 
 const CSV: Argument = ("csv", ArgumentKind::Flag, "Writes comma-separated values");
 
+const JSONL: Argument = (
+    "jsonl",
+    ArgumentKind::Flag,
+    "Writes an object of JSON for each row",
+);
+
+const WIDTH: Argument = (
+    "width",
+    ArgumentKind::Option("N"),
+    "Writes for N columns: below 120, as on a terminal, at most 80",
+);
+
 const TRACE: CommandSpec = CommandSpec {
     name: "trace",
     called: "agc_watch trace",
     about: "Writes a line for each request, with the tables",
-    example: "Example: agc_watch trace --alarms examples/no-vac-area.toml",
+    example: "\
+no           the request's number, with ! if it was refused
+time, total  seconds, or ticks of a bench: of the era, and in all
+by           who asks, if several do
+running      the job that runs
+sets         the jobs in core sets, as job/priority: in brackets if asleep, after
+             > if NEWJOB names it
+areas        the jobs that own the VAC areas
+tasks        the tasks that wait, as address+centiseconds
+
+Example: agc_watch trace --alarms examples/no-vac-area.toml",
     arguments: &[
         FILE,
         ("script", ArgumentKind::Flag, "Reads a script"),
@@ -84,19 +106,17 @@ const TRACE: CommandSpec = CommandSpec {
         (
             "from",
             ArgumentKind::Option("N"),
-            "Shows only the requests from number N on",
+            "Begins at second N; in a bench or a script at request N",
         ),
         (
             "to",
             ArgumentKind::Option("N"),
-            "Shows only the requests up to number N",
+            "Ends at second N; in a bench or a script at request N",
         ),
         CSV,
-        (
-            "json",
-            ArgumentKind::Flag,
-            "Writes an object of JSON for each request",
-        ),
+        JSONL,
+        ("json", ArgumentKind::Flag, "The same as --jsonl"),
+        WIDTH,
         (
             "perfetto",
             ArgumentKind::Flag,
@@ -193,16 +213,44 @@ const PEAKS: CommandSpec = CommandSpec {
     name: "peaks",
     called: "agc_watch peaks",
     about: "Says for each era how full the tables were, and what ended it",
-    example: "Example: agc_watch peaks examples/no-vac-area.toml",
-    arguments: &[FILE, CSV],
+    example: "\
+era, begins         the era's number, and the second at which it began
+by, ended by        why: the start or the end, an alarm or a restart
+lasts, requests     its seconds, and how many requests were served in it
+begun, ended        how many jobs were established in it, and ended
+sets, areas, tasks  the most in use at once, and the second since which
+idle                the percentage of its ticks at which no job was running
+lost                the seconds that jobs had computed that its end lost
+
+Example: agc_watch peaks examples/no-vac-area.toml",
+    arguments: &[FILE, CSV, JSONL, WIDTH],
 };
 
 const JOBS: CommandSpec = CommandSpec {
     name: "jobs",
     called: "agc_watch jobs",
     about: "Says how long the jobs of each address took, and what they waited for",
-    example: "Example: agc_watch jobs examples/landing.toml",
-    arguments: &[FILE, CSV],
+    example: "\
+job                           jobs at one address, by their name if they have one
+began, ended, lost, alive     how many began, ended, were lost, are left
+least, mean, 95%, most        seconds from beginning to end
+computing, waiting, sleeping  seconds of these, on average
+taken over                    how often another job took over
+share                         the percentage of all time that they computed
+missed, first missed          missed deadlines, and the second of the first
+
+Example: agc_watch jobs examples/landing.toml",
+    arguments: &[
+        FILE,
+        (
+            "eras",
+            ArgumentKind::Flag,
+            "Writes only how the time of each era was used",
+        ),
+        CSV,
+        JSONL,
+        WIDTH,
+    ],
 };
 
 const COMPARE: CommandSpec = CommandSpec {
@@ -221,6 +269,8 @@ const COMPARE: CommandSpec = CommandSpec {
             ArgumentKind::Word("SECOND", true),
             "The second file; standard input for -",
         ),
+        CSV,
+        JSONL,
     ],
 };
 
@@ -266,6 +316,7 @@ Example: agc_watch sweep seed 1 100 scenario.toml",
             "Looks for the smallest value that raises an alarm",
         ),
         CSV,
+        JSONL,
         PROGRESS,
     ],
 };

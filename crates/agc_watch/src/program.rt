@@ -97,7 +97,7 @@ fn work_buffered(
 /// Does the work for these words, of which the first is the program's own name. Returns the exit
 /// status.
 fn run_words(rt: &HostRuntime, words: &[String], rules: PlayOptions) -> Result<u8, Stop> {
-    let asked = parse_words(rt.alloc(), words)?;
+    let asked = parse_words(rt.alloc(), words, rules.folds)?;
     let text = text_of(rt, asked.input)?;
     let before_line = join_words(rt.alloc(), &[asked.input.name(), ":"])?;
     let input = NamedText {

@@ -94,14 +94,14 @@ fn sweep_scenario(
     let alloc = console.rt.alloc();
     let (progress, output) = (&mut console.progress, &mut console.output);
     let first = axis_of(alloc, scenario, asked.first)?;
-    let csv = asked.csv;
+    let form = asked.form;
     if let Some(values) = asked.second {
         let axes = [first, axis_of(alloc, scenario, values)?];
-        run_sweep(alloc, scenario, &axes, csv, progress, output)?;
+        run_sweep(alloc, scenario, &axes, form, progress, output)?;
     } else if asked.finds {
-        find_alarm(alloc, scenario, &[first], csv, output)?;
+        find_alarm(alloc, scenario, &[first], form, output)?;
     } else {
-        run_sweep(alloc, scenario, &[first], csv, progress, output)?;
+        run_sweep(alloc, scenario, &[first], form, progress, output)?;
     }
     Ok(0)
 }

@@ -5,6 +5,7 @@ use crate::stops::Stop;
 use agc_explore::{CallerRules, ExploreOptions, TickBounds};
 use agc_plan::Alarm;
 use agc_program::ProgramFault;
+use agc_table::TableForm;
 use agc_trace::{TraceFormat, TraceOptions};
 use clap::error::ErrorKind;
 use clap::{ArgMatches, Command, Error};
@@ -12,6 +13,12 @@ use std::alloc::Global;
 
 /// The most states of a search, unless the words name another number.
 const STATES: u64 = 2_000_000;
+
+/// The columns from which on a text has room for all of a row beside each other.
+const WIDE: u64 = 120;
+
+/// Why two forms of a table are wrong.
+const ONE_FORM: &str = "a table has one form";
 
 /// The values to try of the number that a key names.
 #[derive(Clone, Copy)]
@@ -23,13 +30,13 @@ pub(crate) struct Values<'a> {
 }
 
 /// A sweep: the values of a number, and those of a second one, if there is one; whether it looks
-/// for the smallest that raises an alarm; and whether rows are comma-separated values.
+/// for the smallest that raises an alarm; and the form of its table.
 #[derive(Clone, Copy)]
 pub(crate) struct SweepOptions<'a> {
     pub first: Values<'a>,
     pub second: Option<Values<'a>>,
     pub finds: bool,
-    pub csv: bool,
+    pub form: TableForm,
 }
 
 /// A way to show a bench or a scenario.
@@ -37,10 +44,10 @@ pub(crate) struct SweepOptions<'a> {
 pub(crate) enum Show {
     /// The trace of the requests that are chosen.
     Trace(TraceOptions),
-    /// How full the tables were, era by era, as comma-separated values or not.
-    Peaks(bool),
-    /// The statistics of its jobs, as comma-separated values or not.
-    Jobs(bool),
+    /// How full the tables were, era by era.
+    Peaks(TableForm),
+    /// The statistics of its jobs, or only how the time of each era was used.
+    Jobs(TableForm, bool),
 }
 
 /// A task for the program, and the kind of its input.
@@ -65,7 +72,7 @@ pub(crate) enum Subcommand<'a> {
     /// To run a scenario for each value of a number, or of two.
     Sweep(SweepOptions<'a>),
     /// To write the differences from the document of this name.
-    Compare(&'a str),
+    Compare(&'a str, TableForm),
 }
 
 impl Subcommand<'_> {
@@ -118,6 +125,19 @@ fn number_of(digits: &str) -> Option<u64> {
     }
 }
 
+/// The hundredths of a number with at most two decimals.
+fn hundredths_of(text: &str) -> Option<u64> {
+    let (whole, decimals) = text.split_once('.').unwrap_or((text, "00"));
+    let tens = match decimals.len() {
+        1 => 10,
+        2 => 1,
+        _ => return None,
+    };
+    let rest = number_of(decimals)?.saturating_mul(tens);
+    let whole = number_of(whole).filter(|_number| !whole.is_empty())?;
+    Some(whole.saturating_mul(100).saturating_add(rest))
+}
+
 /// The values of a text, such as `KEY:FROM:TO` or `KEY:FROM:TO:STEP`.
 fn values_of(text: &str) -> Option<Values<'_>> {
     let (front, last) = text.rsplit_once(':')?;
@@ -151,11 +171,12 @@ fn file_of(word: Option<&str>) -> Option<&str> {
     }
 }
 
-/// The words after a command, the file that they name, and the first reason why they are wrong, if
-/// there is one.
+/// The words after a command, whether texts have to fit a terminal, the file that they name, and the
+/// first reason why they are wrong, if there is one.
 #[derive(Drop)]
 struct Words<'a, 'b> {
     given: &'b ArgMatches<'a>,
+    folds: bool,
     file: Option<&'a str>,
     wrong: Option<&'static str>,
 }
@@ -197,30 +218,50 @@ impl<'a, 'b> Words<'a, 'b> {
         alarm
     }
 
-    /// The form of a trace.
-    fn form(&mut self) -> TraceFormat {
+    /// The hundredths of an option's number, if it is given.
+    fn hundredths(&mut self, name: &str, reason: &'static str) -> Option<u64> {
+        let text = self.given.get_str(name)?;
+        let number = hundredths_of(text);
+        self.check(number.is_some(), reason);
+        number
+    }
+
+    /// The form of a table.
+    fn form(&mut self, reason: &'static str) -> TableForm {
+        let width = self.number("width", "--width wants a number");
+        let lines = self.given.get_flag("jsonl") || self.given.get_flag("json");
         let csv = self.given.get_flag("csv");
-        let json = self.given.get_flag("json");
-        match (csv, json, self.given.get_flag("perfetto")) {
-            (false, false, false) => TraceFormat::Lines,
-            (true, false, false) => TraceFormat::Csv,
-            (false, true, false) => TraceFormat::Json,
-            (false, false, true) => TraceFormat::Chart,
-            _ => {
-                self.check(false, "a trace has one form");
-                TraceFormat::Lines
-            }
+        self.check(!csv || !lines, reason);
+        if csv {
+            TableForm::Csv
+        } else if lines {
+            TableForm::JsonLines
+        } else if width.map_or(self.folds, |width| width < WIDE) {
+            TableForm::Narrow
+        } else {
+            TableForm::Wide
         }
+    }
+
+    /// The form of a trace.
+    fn trace_form(&mut self) -> TraceFormat {
+        let form = self.form("a trace has one form");
+        if !self.given.get_flag("perfetto") {
+            return TraceFormat::Rows(form);
+        }
+        let is_text = matches!(form, TableForm::Wide | TableForm::Narrow);
+        self.check(is_text, "a trace has one form");
+        TraceFormat::Chart
     }
 
     /// Reads the words after `trace`.
     fn trace(&mut self) -> Subcommand<'a> {
-        let from = self.number("from", "--from wants a number");
-        let to = self.number("to", "--to wants a number");
+        let from = self.hundredths("from", "--from wants a number");
+        let to = self.hundredths("to", "--to wants a number");
         let is_right = from.unwrap_or(0) <= to.unwrap_or(u64::MAX);
         self.check(is_right, "--from is beyond --to");
         let choice = TraceOptions {
-            form: self.form(),
+            form: self.trace_form(),
             alarms: self.given.get_flag("alarms"),
             from,
             to,
@@ -318,7 +359,7 @@ impl<'a, 'b> Words<'a, 'b> {
             first,
             second,
             finds,
-            csv: self.given.get_flag("csv"),
+            form: self.form(ONE_FORM),
         }
     }
 
@@ -327,7 +368,7 @@ impl<'a, 'b> Words<'a, 'b> {
         let second = self.given.get_str("second").unwrap_or("-");
         let is_named = self.file.is_some() || second != "-";
         self.check(is_named, "FIRST and SECOND can't both be standard input");
-        Subcommand::Compare(second)
+        Subcommand::Compare(second, self.form(ONE_FORM))
     }
 
     /// Reads the words after the name of a command.
@@ -339,8 +380,11 @@ impl<'a, 'b> Words<'a, 'b> {
             "check" => Subcommand::Check,
             "explore" => Subcommand::Explore(self.explore()),
             "bench" => Subcommand::Bench,
-            "peaks" => Subcommand::Show(Show::Peaks(self.given.get_flag("csv"))),
-            "jobs" => Subcommand::Show(Show::Jobs(self.given.get_flag("csv"))),
+            "peaks" => Subcommand::Show(Show::Peaks(self.form(ONE_FORM))),
+            "jobs" => Subcommand::Show(Show::Jobs(
+                self.form(ONE_FORM),
+                self.given.get_flag("eras"),
+            )),
             "sweep" => Subcommand::Sweep(self.sweep()),
             "compare" => self.compare(),
             _ => Subcommand::Play,
@@ -358,12 +402,17 @@ fn input_of<'a>(subcommand: Subcommand<'_>, file: Option<&'a str>) -> Input<'a> 
 }
 
 /// Reads a command line that `clap` takes.
-fn parse_matches<'a>(alloc: Global, matches: &ArgMatches<'a>) -> Result<Invocation<'a>, Stop> {
+fn parse_matches<'a>(
+    alloc: Global,
+    matches: &ArgMatches<'a>,
+    folds: bool,
+) -> Result<Invocation<'a>, Stop> {
     let Some((command, given)) = matches.subcommand() else {
         return Err(refused_words(alloc, "", "a command is missing"));
     };
     let mut words = Words {
         given,
+        folds,
         file: file_of(given.get_str("file")),
         wrong: None,
     };
@@ -407,22 +456,28 @@ fn read<'a>(
     alloc: Global,
     program: &mut Command<'a>,
     words: &'a [String],
+    folds: bool,
 ) -> Result<Invocation<'a>, Stop> {
     match program.try_get_matches_from_mut(words) {
-        Ok(matches) => parse_matches(alloc, &matches),
+        Ok(matches) => parse_matches(alloc, &matches, folds),
         Err(error) => Err(refused_by(error)),
     }
 }
 
-/// Reads the words of a command line. The first is the program's own name.
+/// Reads the words of a command line, whose texts have to fit a terminal or not. The first is the
+/// program's own name.
 ///
 /// # Errors
 ///
 /// `Words` for those that ask for a text, the help or the version, and for wrong ones; and that
 /// there is no memory.
-pub(crate) fn parse_words<'a>(alloc: Global, words: &'a [String]) -> Result<Invocation<'a>, Stop> {
+pub(crate) fn parse_words<'a>(
+    alloc: Global,
+    words: &'a [String],
+    folds: bool,
+) -> Result<Invocation<'a>, Stop> {
     match whole_command(alloc) {
-        Ok(mut command) => read(alloc, &mut command, words),
+        Ok(mut command) => read(alloc, &mut command, words, folds),
         Err(_no_memory) => Err(Stop::ProgramFault(ProgramFault::NoMemory)),
     }
 }

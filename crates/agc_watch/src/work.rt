@@ -15,6 +15,7 @@ use agc_play::{PlayFault, PlayOptions, play};
 use agc_program::ProgramFault;
 use agc_run::Subject;
 use agc_scenario::Scenario;
+use agc_table::TableForm;
 use agc_text::{MOST_BYTES, ReadFault, read_script};
 use agc_trace::{TraceOptions, trace, trace_script};
 use std::alloc::{AllocError, Global};
@@ -46,8 +47,8 @@ fn show_subject(console: &mut Console<'_>, show: Show, subject: Subject<'_>) -> 
     let alloc = console.rt.alloc();
     let (progress, output) = (&mut console.progress, &mut console.output);
     let shown = match show {
-        Show::Peaks(csv) => return Ok(write_peaks(alloc, subject, csv, output)?),
-        Show::Jobs(csv) => return Ok(write_jobs(alloc, subject, csv, output)?),
+        Show::Peaks(form) => return Ok(write_peaks(alloc, subject, form, output)?),
+        Show::Jobs(form, eras) => return Ok(write_jobs(alloc, subject, (form, eras), output)?),
         Show::Trace(choice) => trace(alloc, subject, choice, progress, output),
     };
     match shown {
@@ -183,28 +184,33 @@ fn summary_in(rt: &HostRuntime, input: NamedText<'_>) -> Result<RunSummary, Stop
     }
 }
 
-/// The summary of the run of the document in a file of this name.
-fn summary_of_file(rt: &HostRuntime, name: &str) -> Result<RunSummary, Stop> {
-    let file = match name {
-        "-" => Source::Standard,
-        name => Source::File(name),
-    };
-    let text = text_of(rt, file)?;
+/// The summary of the run of the document that is the text of a file of this name.
+fn summary_of_file(rt: &HostRuntime, name: &str, text: &str) -> Result<RunSummary, Stop> {
     let before_line = join_words(rt.alloc(), &[name, ":"])?;
     let input = NamedText {
         before_line: before_line.as_str(),
-        text: text.as_str(),
+        text,
     };
     summary_in(rt, input)
 }
 
 /// Writes what differs between an input's document and that of a file. The exit status says whether
 /// they differ.
-fn compare_with(console: &mut Console<'_>, second: &str, input: NamedText<'_>) -> Result<u8, Stop> {
+fn compare_with(
+    console: &mut Console<'_>,
+    (second, form): (&str, TableForm),
+    input: NamedText<'_>,
+) -> Result<u8, Stop> {
     let (rt, output) = (console.rt, &mut console.output);
     let first = summary_in(rt, input)?;
-    let second = summary_of_file(rt, second)?;
-    match put_differences(rt.alloc(), &first, &second, output) {
+    let file = match second {
+        "-" => Source::Standard,
+        name => Source::File(name),
+    };
+    let text = text_of(rt, file)?;
+    let other = summary_of_file(rt, second, text.as_str())?;
+    let documents = [(input.text, &first), (text.as_str(), &other)];
+    match put_differences(rt.alloc(), documents, form, output) {
         Ok(true) => Ok(YES),
         Ok(false) => Ok(0),
         Err(fault) => Err(Stop::from(fault)),
@@ -229,7 +235,7 @@ pub(crate) fn work(
         Subcommand::Play => play_bench(console, rules, input),
         Subcommand::Bench => write_bench(console, input),
         Subcommand::Sweep(asked) => write_sweep(console, asked, input),
-        Subcommand::Compare(second) => compare_with(console, second, input),
+        Subcommand::Compare(second, form) => compare_with(console, (second, form), input),
         Subcommand::TraceScript(choice) => trace_requests(console, choice, input),
         Subcommand::CheckScript => check_script(console, input),
     }

@@ -1,0 +1,256 @@
+// A table that is written: as text, wide or narrow, as CSV, or as JSON Lines.
+use crate::row::{Cell, Kind, Row};
+use agc_text::Field::{Bytes, Csv, Json};
+use agc_text::{Buffer, Output};
+use std::alloc::{AllocError, Global};
+use std::io::Write;
+
+/// The form of a table.
+#[derive(Clone, Copy, PartialEq, Eq)]
+pub enum TableForm {
+    /// Text, with all columns beside each other.
+    Wide,
+    /// Text of at most 80 columns: some cells of a row stand below the others, after their names.
+    Narrow,
+    /// Comma-separated values.
+    Csv,
+    /// An object of JSON for each row, in a line each.
+    JsonLines,
+}
+
+/// The width of the narrow form.
+const WIDTH: usize = 80;
+
+/// More blanks than any cell needs.
+const BLANKS: [u8; 128] = [b' '; 128];
+
+/// How many letters begin in a text.
+fn letters(text: &[u8]) -> usize {
+    text.iter().filter(|byte| **byte & 0xC0 != 0x80).count()
+}
+
+/// Adds this many blanks.
+fn put_blanks(buffer: &mut Buffer, count: usize) {
+    buffer.add(Bytes(&BLANKS[..count.min(BLANKS.len())]));
+}
+
+/// Adds a text that is a value of CSV or stands in a string of JSON.
+fn put_as(buffer: &mut Buffer, text: &[u8], form: TableForm) {
+    match str::from_utf8(text) {
+        Err(_other) => {}
+        Ok(text) if form == TableForm::Csv => buffer.add(Csv(text)),
+        Ok(text) => buffer.add(Json(text)),
+    }
+}
+
+/// The sign after a cell's text.
+fn sign_of(cell: &Cell) -> &'static str {
+    if cell.kind == Kind::Percent { "%" } else { "" }
+}
+
+/// Adds a cell in columns, after these blanks. Returns how many come before the next one: with what
+/// is left of its width, where it stands at the left.
+fn put_aligned(lines: &mut Buffer, cell: &Cell, text: &[u8], blanks: usize) -> usize {
+    let sign = sign_of(cell);
+    let count = letters(text).saturating_add(sign.len());
+    let rest = cell.width.saturating_sub(count);
+    let (before, behind) = if cell.is_left { (0, rest) } else { (rest, 0) };
+    put_blanks(lines, blanks.saturating_add(before));
+    lines.add(Bytes(text));
+    lines.text(sign);
+    behind.saturating_add(2)
+}
+
+impl Row {
+    /// Adds it as an object of JSON.
+    pub fn put_object(&self, buffer: &mut Buffer) {
+        let mut before = "{\"";
+        for (place, cell) in self.cells().iter().enumerate() {
+            let (key, text) = (self.key_of(place), self.text_of(place));
+            buffer.text(before);
+            put_as(buffer, key, TableForm::JsonLines);
+            match cell.kind {
+                Kind::Nothing => buffer.text("\":null"),
+                Kind::Plain | Kind::Percent => buffer.fill("\":", Bytes(text)),
+                Kind::Text => {
+                    buffer.text("\":\"");
+                    put_as(buffer, text, TableForm::JsonLines);
+                    buffer.text("\"");
+                }
+            }
+            before = ",\"";
+        }
+        buffer.text("}");
+    }
+
+    /// Adds the names of its columns, in place of its cells.
+    fn put_names(&self, lines: &mut Buffer, form: TableForm) {
+        let mut blanks: usize = 0;
+        for (place, cell) in self.cells().iter().enumerate() {
+            if form == TableForm::Csv {
+                lines.text(if place == 0 { "" } else { "," });
+                put_as(lines, self.key_of(place), form);
+            } else if form == TableForm::Wide || place < self.front {
+                let mut named = *cell;
+                named.kind = Kind::Text;
+                blanks = put_aligned(lines, &named, self.name_of(place), blanks);
+            }
+        }
+        lines.text("\n");
+    }
+
+    /// Adds the cells that stand beside each other. What follows a text that is longer than its
+    /// column stands in the next line: in the wide form, only what stands below in the narrow one.
+    fn put_columns(&self, lines: &mut Buffer, is_narrow: bool) {
+        let (mut blanks, mut whole, mut is_over) = (0_usize, 0_usize, false);
+        for (place, cell) in self.cells().iter().enumerate() {
+            if place < self.front || !is_narrow {
+                if is_over && (is_narrow || place == self.front) {
+                    lines.text("\n");
+                    blanks = whole;
+                }
+                let text = self.text_of(place);
+                is_over = cell.is_left && letters(text) > cell.width;
+                blanks = put_aligned(lines, cell, text, blanks);
+                whole = whole.saturating_add(cell.width).saturating_add(2);
+            }
+        }
+    }
+
+    /// Adds the cells that stand below the others, in as few lines as have room for them.
+    fn put_below(&self, lines: &mut Buffer) {
+        let mut length = WIDTH;
+        for (place, cell) in self.cells().iter().enumerate().skip(self.front) {
+            let text = self.text_of(place).trim_ascii_start();
+            let name = self.name_of(place).trim_ascii_start();
+            let sign = sign_of(cell);
+            let added = letters(text).saturating_add(name.len());
+            let added = added.saturating_add(sign.len()).saturating_add(3);
+            let is_first = length.saturating_add(added) > WIDTH;
+            lines.text(if is_first { "\n    " } else { "  " });
+            lines.add(Bytes(name));
+            lines.fill(" ", Bytes(text));
+            lines.text(sign);
+            length = if is_first { 2 } else { length }.saturating_add(added);
+        }
+    }
+
+    /// Adds it as comma-separated values.
+    fn put_values(&self, lines: &mut Buffer) {
+        for (place, cell) in self.cells().iter().enumerate() {
+            lines.text(if place == 0 { "" } else { "," });
+            if cell.kind != Kind::Nothing {
+                put_as(lines, self.text_of(place), TableForm::Csv);
+            }
+        }
+    }
+}
+
+/// Where to break a line so that at most this many letters stand before: at its last blank, or
+/// else within a word.
+fn break_of(line: &[u8], most: usize) -> usize {
+    let (mut count, mut blank, mut has_word) = (0_usize, 0_usize, false);
+    for (place, byte) in line.iter().enumerate() {
+        count = count.saturating_add(usize::from(*byte & 0xC0 != 0x80));
+        if *byte == b' ' && has_word {
+            blank = place;
+        }
+        if count > most {
+            return if blank == 0 { place } else { blank };
+        }
+        has_word |= *byte != b' ';
+    }
+    line.len()
+}
+
+/// Adds a line; what has no room in it follows in others.
+fn put_broken(buffer: &mut Buffer, line: &[u8]) {
+    let mut rest = line;
+    let mut most = WIDTH;
+    for _line in 0..u64::MAX {
+        if letters(rest) <= most {
+            break;
+        }
+        let (before, behind) = rest.split_at(break_of(rest, most).min(rest.len()));
+        buffer.add(Bytes(before));
+        buffer.text("\n        ");
+        rest = behind.trim_ascii_start();
+        most = WIDTH - 8;
+    }
+    buffer.add(Bytes(rest));
+    buffer.text("\n");
+}
+
+/// A table: its form, the row that is being filled, and the lines that are not written yet.
+#[derive(Drop)]
+pub struct Table {
+    pub form: TableForm,
+    pub row: Row,
+    pub lines: Buffer,
+    broken: Buffer,
+}
+
+impl Table {
+    /// A table without lines.
+    ///
+    /// # Errors
+    ///
+    /// If memory runs out.
+    pub fn new(alloc: Global, form: TableForm) -> Result<Table, AllocError> {
+        match (Row::new(alloc), Buffer::new(alloc), Buffer::new(alloc)) {
+            (Ok(row), Ok(lines), Ok(broken)) => Ok(Table {
+                form,
+                row,
+                lines,
+                broken,
+            }),
+            _ => Err(AllocError),
+        }
+    }
+
+    /// Whether it is text.
+    pub fn is_text(&self) -> bool {
+        matches!(self.form, TableForm::Wide | TableForm::Narrow)
+    }
+
+    /// Adds the names of the row's columns, in place of its cells, and takes these away.
+    pub fn end_heading(&mut self) {
+        if self.form != TableForm::JsonLines {
+            self.row.put_names(&mut self.lines, self.form);
+        }
+        self.row.clear();
+    }
+
+    /// Adds the row, and takes its cells away.
+    pub fn end_row(&mut self) {
+        match self.form {
+            TableForm::Wide => self.row.put_columns(&mut self.lines, false),
+            TableForm::Narrow => {
+                self.row.put_columns(&mut self.lines, true);
+                self.row.put_below(&mut self.lines);
+            }
+            TableForm::Csv => self.row.put_values(&mut self.lines),
+            TableForm::JsonLines => self.row.put_object(&mut self.lines),
+        }
+        self.lines.text("\n");
+        self.row.clear();
+    }
+
+    /// Writes all lines; in the narrow form none has more than 80 letters.
+    ///
+    /// # Errors
+    ///
+    /// If a write fails, or there was no memory for all of them.
+    pub fn send<W: Write>(&mut self, writer: &mut W) -> Result<(), Output> {
+        self.row.text.end()?;
+        if self.form != TableForm::Narrow {
+            return self.lines.send(writer);
+        }
+        self.lines.end()?;
+        for line in self.lines.as_bytes().split_inclusive(|byte| *byte == b'\n') {
+            put_broken(&mut self.broken, line.trim_ascii_end());
+        }
+        self.lines.clear();
+        self.broken.send(writer)
+    }
+}
