@@ -171,8 +171,8 @@ fn file_of(word: Option<&str>) -> Option<&str> {
     }
 }
 
-/// The words after a command, whether texts have to fit a terminal, the file that they name, and the
-/// first reason why they are wrong, if there is one.
+/// The words after a command, whether texts have to fit a terminal, the file that is named, and the
+/// first reason why the words are wrong, if there is one.
 #[derive(Drop)]
 struct Words<'a, 'b> {
     given: &'b ArgMatches<'a>,
