@@ -100,15 +100,15 @@ fn fill_waits(
 /// Adds the phases of the groups that are active.
 fn fill_phases(row: &mut Row, item: &mut Row, columns: &Columns, scene: &Scene) {
     row.text.text("[");
-    let mut before = "";
+    let mut is_first = true;
     for (group, phase) in (1..7_usize).zip(scene.phases().iter()) {
         if phase.get() > 0 {
             item.cell(left("", "group", 0), Number(group as u64));
             fill_number(item, "phase", Some(u16::from(phase.get())));
             let name = columns.names.of(ItemKind::Phase(group, *phase));
             item.option(left("", "name", 0), name.map(Text));
-            put_item(row, item, before);
-            before = ",";
+            put_item(row, item, if is_first { "" } else { "," });
+            is_first = false;
         }
     }
     row.text.text("]");
