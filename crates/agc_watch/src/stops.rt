@@ -3,13 +3,13 @@ ghost use Rattle.std.specs.Prelude.{◌≡◌};
 ghost use Rattle.agc_watch.specs.declared.stops.Stop.TheVariants as stop;
 ghost use Rattle.agc_program.specs.declared.fault.ProgramFault.TheVariants as fault;
 
-use crate::files::unwritten;
 use agc_check::add;
 use agc_program::{Program, ProgramFault, exit_with};
 use agc_session::RunFault;
 use agc_text::MOST_BYTES;
 use clap::Error;
 use std::alloc::{AllocError, Global};
+use std::io::ErrorKind;
 use std::process::ExitCode;
 
 /// The program's name, and its message about wrong words.
@@ -85,7 +85,11 @@ fn exit_with_help(rt: &HostRuntime, text: &Error) -> ExitCode {
     match text.print(rt) {
         Ok(()) if text.use_stderr() => ExitCode::from(2),
         Ok(()) => ExitCode::SUCCESS,
-        Err(error) => exit_early(rt, &unwritten(rt.alloc(), &error)),
+        Err(error) if error.kind() == ErrorKind::BrokenPipe => ExitCode::from(4),
+        Err(error) => {
+            let _ = eprintln!(rt; "agc_watch: output: {error}");
+            ExitCode::from(4)
+        }
     }
 }
 
