@@ -82,6 +82,7 @@ def try_examples(browser, trial):
     told = texts(browser, "[aria-label=exercises] li")
     trial.expect(f"exercises are told: {told}", told.startswith("Which request raised the alarm?exercise-1|Who holds the table?exercise-2|"))
     browser.value("document.querySelector('[aria-label=examples] button').click()")
+    wait(lambda: saved(browser)[1].endswith("#landing-1202"))
     trial.expect(saved(browser)[1], saved(browser)[1].endswith("#landing-1202"))
     browser.click("examples")
     browser.value("document.querySelector('[aria-label=exercises] button').click()")
