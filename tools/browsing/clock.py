@@ -168,7 +168,7 @@ def try_landing(browser, trial):
     era = written(PROGRAM, "peaks", repository.tool("workbench").landing_with_sleepers()).splitlines()[1].split()
     told = browser.text("account")
     for line in (f"{era[5]} jobs began and {era[6]} ended, and the computer was idle {era[-3][:-1]} % of the time.",
-                 "by action 1 of the task MONITOR (02100): novac 30 05000 00007", "asleep at 06100, since request 5"):
+                 "by action 1 of the task MONITOR (02100): novac 30 05000 00007", "asleep at sleeper 2 (06100), since request 5"):
         trial.expect(f"the account lacks {line}: {told}", line in told)
     press_try(browser, "With eight core sets?")
     told = beside(browser)
