@@ -31,10 +31,13 @@ function answersOf({ text, steal, sets }) {
   return { sweep: told.map((it) => it.join(",")), jobs: jobsOf(run, run.count).map(cellsOf) };
 }
 
+/** How far a quotient may lie below what it is exactly. */
+const EXACT = 1e-9;
+
 /** A row of the table of jobs, as the columns of agc_watch that it has. @param {import("../../web/jobs.js").JobRow} row */
 function cellsOf({ began, ended, lost, alive, least, mean, most, share, deadline, missed, firstMissed }) {
   const seconds = (/** @type {number} */ hundredths) => (Math.floor((hundredths + 50) / 100) / 100).toFixed(2);
-  return [began, ended, lost, alive, seconds(least), seconds(mean), seconds(most), (Math.floor(1000 * share + 0.5) / 10).toFixed(1),
+  return [began, ended, lost, alive, seconds(least), seconds(mean), seconds(most), (Math.floor(1000 * share + 0.5 + EXACT) / 10).toFixed(1),
     deadline === null ? "" : missed, firstMissed === null ? "" : seconds(firstMissed)].join(",");
 }
 

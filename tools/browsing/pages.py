@@ -15,7 +15,7 @@ SERIAL = f"{TOP}/crates/agc/out/agc"
 # How many random benches and scenarios are opened, and for how many seconds keys and clicks are random; how many
 # by `--all`.
 COUNTS = {"benches": 40, "scenarios": 15, "seconds": 10, "links": 60, "agreements": 60, "seed": 1202}
-ALL_COUNTS = {"benches": 300, "scenarios": 100, "seconds": 300, "links": 10_000, "agreements": 1000}
+ALL_COUNTS = {"benches": 300, "scenarios": 100, "seconds": 300, "links": 10_000, "agreements": 1010}
 
 
 class Trial:
