@@ -28,8 +28,8 @@ fn name_field(jobs: &JobsSummary) -> Field<'_> {
         .map_or(Octal(jobs.at), |name| Text(name.as_str()))
 }
 
-/// Adds the cells of a line: whose value it is, its name, and the values of both documents. In a
-/// text the jobs stand in a line above.
+/// Adds the cells of a row: the jobs that it is about, the value's name, and the values of both
+/// documents. In text the jobs have a line of their own above.
 fn fill(table: &mut Table, jobs: Option<Field<'_>>, name: &[u8], (pair, place): (Pair<'_>, usize)) {
     if table.is_text() {
         table.row.text.text(if jobs.is_some() { "  " } else { "" });
@@ -43,14 +43,14 @@ fn fill(table: &mut Table, jobs: Option<Field<'_>>, name: &[u8], (pair, place): 
         .copy(right("second", "second", 10), pair.other, place);
 }
 
-/// Adds the values that differ; in a text those of jobs stand below their name.
+/// Adds a row for each value that differs. In text a line with the jobs' name comes first.
 fn put(table: &mut Table, jobs: Option<Field<'_>>, names: &Row, pair: Pair<'_>) {
-    let mut is_called = jobs.is_none() || !table.is_text();
+    let mut has_heading = jobs.is_none() || !table.is_text();
     for place in 0..names.len() {
         if text_at(pair.one, place) != text_at(pair.other, place) {
-            if let (false, Some(jobs)) = (is_called, jobs) {
+            if let (false, Some(jobs)) = (has_heading, jobs) {
                 table.lines.put("job {}\n", &[jobs]);
-                is_called = true;
+                has_heading = true;
             }
             fill(table, jobs, names.name_of(place), (pair, place));
             table.end_row();
@@ -89,10 +89,9 @@ fn put_all_jobs(table: &mut Table, one: &[JobsSummary], other: &[JobsSummary]) {
 }
 
 /// Writes which keys of two documents differ, given their texts, and what differs between their
-/// outcomes: how long they last, how many
-/// requests, refusals, eras and alarms there are, the first alarm, the most core sets, VAC areas
-/// and tasks at once, and what `jobs` tells of the jobs that are called the same. Returns whether
-/// the outcomes differ. The writer is not flushed.
+/// runs: how long they last, how many requests, refusals, eras and alarms there are, the first
+/// alarm, the most core sets, VAC areas and tasks at once, and what `jobs` reports of the jobs with
+/// the same name. Returns whether the runs differ. The writer is not flushed.
 ///
 /// # Errors
 ///

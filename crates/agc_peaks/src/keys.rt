@@ -5,7 +5,7 @@ use agc_text::Field::{Number, Text};
 use std::alloc::{AllocError, Global};
 use toml::{Table as Document, Value};
 
-/// Adds a value; two points for one that has parts.
+/// Adds a value, or `..` for an array or a table.
 fn fill_value(row: &mut Row, column: Column<'_>, value: Option<&Value>) {
     match value {
         None => row.option(column, None),
@@ -17,7 +17,7 @@ fn fill_value(row: &mut Row, column: Column<'_>, value: Option<&Value>) {
     }
 }
 
-/// Adds the row of a key, whose path stands in the row, if its values differ.
+/// Adds the row of a key, whose path the row contains already, if its values differ.
 fn put_key(table: &mut Table, one: Option<&Value>, other: Option<&Value>) {
     let is_same = match (one, other) {
         (Some(one), Some(other)) => one == other,
@@ -82,15 +82,16 @@ fn put_lists(table: &mut Table, list: &str, one: &[Value], other: &[Value]) -> b
     true
 }
 
-/// Adds a key of a document, if its values differ; of lists of tables, the keys in these.
+/// Adds a key of a document, if its values differ. If both are lists of equally many tables, adds
+/// the keys of these tables instead.
 fn put_value(table: &mut Table, key: &str, one: Option<&Value>, other: Option<&Value>) {
-    let is_told = match (one, other) {
+    let is_written = match (one, other) {
         (Some(Value::Array(one)), Some(Value::Array(other))) => {
             put_lists(table, key, one.as_slice(), other.as_slice())
         }
         _ => false,
     };
-    if !is_told {
+    if !is_written {
         begin(table, key);
         put_key(table, one, other);
     }

@@ -5,8 +5,8 @@ use std::alloc::{AllocError, Global};
 /// The most cells that a row has.
 pub(crate) const MOST_CELLS: usize = 32;
 
-/// A column: its name in text, its name in CSV and JSON, its width in text, and whether its cells
-/// stand at the left there.
+/// A column: its name in text, its name in CSV and JSON, its width in text in characters, and
+/// whether its cells are left-aligned there.
 #[derive(Clone, Copy)]
 pub struct Column<'a> {
     name: &'a str,
@@ -15,7 +15,7 @@ pub struct Column<'a> {
     is_left: bool,
 }
 
-/// A column whose cells stand at its left.
+/// A left-aligned column: its name in text, its name in CSV and JSON, its width in characters.
 pub fn left<'a>(name: &'a str, key: &'a str, width: usize) -> Column<'a> {
     Column {
         name,
@@ -25,7 +25,7 @@ pub fn left<'a>(name: &'a str, key: &'a str, width: usize) -> Column<'a> {
     }
 }
 
-/// A column whose cells stand at its right.
+/// A right-aligned column, with the same parameters as `left`.
 pub fn right<'a>(name: &'a str, key: &'a str, width: usize) -> Column<'a> {
     Column {
         name,
@@ -41,14 +41,15 @@ pub(crate) enum Kind {
     /// `-`, an empty value in CSV, and `null` in JSON.
     Nothing,
     Text,
-    /// A number, or a part of JSON as it is.
+    /// A number, or JSON that is written unchanged.
     Plain,
     /// A number, with a percent sign in text.
     Percent,
 }
 
-/// A cell: its kind, the width of its column, and where it stands there. In the text of its row its
-/// own text, its column's name, and the name for CSV and JSON follow each other up to these places.
+/// A cell: its kind, the width of its column, and its alignment. The text of its row contains the
+/// cell's text, its column's name, and the name for CSV and JSON, one after the other; `from` is
+/// where the first begins, the other three are where each ends.
 #[derive(Clone, Copy)]
 pub(crate) struct Cell {
     pub(crate) kind: Kind,
@@ -61,7 +62,7 @@ pub(crate) struct Cell {
 }
 
 /// A row: the texts of its cells, with the names of their columns; the cells; and how many of them
-/// stand beside each other in the narrow form.
+/// are on the row's first line in the narrow form.
 #[derive(Drop)]
 pub struct Row {
     pub text: Buffer,
@@ -177,7 +178,7 @@ impl Row {
         self.end_as(column, Kind::Percent);
     }
 
-    /// The cells from here on stand below the others in the narrow form, after their names.
+    /// In the narrow form, the cells from here on are printed below the row, after their names.
     pub fn below(&mut self) {
         self.front = self.count;
     }

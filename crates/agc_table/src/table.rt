@@ -8,9 +8,10 @@ use std::io::Write;
 /// The form of a table.
 #[derive(Clone, Copy, PartialEq, Eq)]
 pub enum TableForm {
-    /// Text, with all columns beside each other.
+    /// Text, with all columns side by side.
     Wide,
-    /// Text of at most 80 columns: some cells of a row stand below the others, after their names.
+    /// Text of at most 80 characters a line: the last cells of a row are printed on lines of their
+    /// own below it, each after the name of its column.
     Narrow,
     /// Comma-separated values.
     Csv,
@@ -24,7 +25,7 @@ const WIDTH: usize = 80;
 /// More blanks than any cell needs.
 const BLANKS: [u8; 128] = [b' '; 128];
 
-/// How many letters begin in a text.
+/// How many characters a UTF-8 text has.
 fn letters(text: &[u8]) -> usize {
     text.iter().filter(|byte| **byte & 0xC0 != 0x80).count()
 }
@@ -34,7 +35,7 @@ fn put_blanks(buffer: &mut Buffer, count: usize) {
     buffer.add(Bytes(&BLANKS[..count.min(BLANKS.len())]));
 }
 
-/// Adds a text that is a value of CSV or stands in a string of JSON.
+/// Adds a text as a value of CSV, or as the inside of a string of JSON.
 fn put_as(buffer: &mut Buffer, text: &[u8], form: TableForm) {
     match str::from_utf8(text) {
         Err(_other) => {}
@@ -48,8 +49,8 @@ fn sign_of(cell: &Cell) -> &'static str {
     if cell.kind == Kind::Percent { "%" } else { "" }
 }
 
-/// Adds a cell in columns, after these blanks. Returns how many come before the next one: with what
-/// is left of its width, where it stands at the left.
+/// Adds a cell at its width, after this many blanks. Returns how many blanks come before the next
+/// cell, the rest of a left-aligned cell's width included.
 fn put_aligned(lines: &mut Buffer, cell: &Cell, text: &[u8], blanks: usize) -> usize {
     let sign = sign_of(cell);
     let count = letters(text).saturating_add(sign.len());
@@ -99,8 +100,8 @@ impl Row {
         lines.text("\n");
     }
 
-    /// Adds the cells that stand beside each other. What follows a text that is longer than its
-    /// column stands in the next line: in the wide form, only what stands below in the narrow one.
+    /// Adds the cells of the row's first line. If a text is longer than its column, the next cell
+    /// starts a new line; in the wide form only the first that the narrow form prints below.
     fn put_columns(&self, lines: &mut Buffer, is_narrow: bool) {
         let (mut blanks, mut whole, mut is_over) = (0_usize, 0_usize, false);
         for (place, cell) in self.cells().iter().enumerate() {
@@ -117,7 +118,7 @@ impl Row {
         }
     }
 
-    /// Adds the cells that stand below the others, in as few lines as have room for them.
+    /// Adds the cells that the narrow form prints below the row, in as few lines as they fit.
     fn put_below(&self, lines: &mut Buffer) {
         let mut length = WIDTH;
         for (place, cell) in self.cells().iter().enumerate().skip(self.front) {
@@ -146,8 +147,8 @@ impl Row {
     }
 }
 
-/// Where to break a line so that at most this many letters stand before: at its last blank, or
-/// else within a word.
+/// Where to break a line so that its first part has at most this many characters: at the last
+/// blank, or if there is none, within a word.
 fn break_of(line: &[u8], most: usize) -> usize {
     let (mut count, mut blank, mut has_word) = (0_usize, 0_usize, false);
     for (place, byte) in line.iter().enumerate() {
@@ -163,7 +164,7 @@ fn break_of(line: &[u8], most: usize) -> usize {
     line.len()
 }
 
-/// Adds a line; what has no room in it follows in others.
+/// Adds a line, and continues it on further lines if it is longer than 80 characters.
 fn put_broken(buffer: &mut Buffer, line: &[u8]) {
     let mut rest = line;
     let mut most = WIDTH;
@@ -236,7 +237,7 @@ impl Table {
         self.row.clear();
     }
 
-    /// Writes all lines; in the narrow form none has more than 80 letters.
+    /// Writes all lines. In the narrow form none has more than 80 characters.
     ///
     /// # Errors
     ///

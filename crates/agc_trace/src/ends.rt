@@ -1,6 +1,6 @@
 // The first and the last lines of a trace: before the first request, power-up; after the last one,
 // how many requests were refused, and which pulses make no requests.
-use crate::page::{Page, Told};
+use crate::page::{Page, TraceEntry};
 use agc_document::Bench;
 use agc_phase::recover;
 use agc_scene::Scene;
@@ -45,7 +45,7 @@ fn power_reply(words: &[Word; 12]) -> &'static str {
 
 /// Adds the outcome of power-up with these phase words: the scene with which the first era begins.
 pub(crate) fn put_power(page: &mut Page, words: &[Word; 12], scene: &Scene) {
-    page.put(Told::Power(power_reply(words)), scene);
+    page.put(TraceEntry::Power(power_reply(words)), scene);
     if !page.table.is_text() {
         return;
     }

@@ -18,9 +18,9 @@ const SETS: [&str; 8] = [
 
 const AREAS: [&str; 5] = ["area1", "area2", "area3", "area4", "area5"];
 
-/// The events that rows are about: power-up, with this reply, or a request.
+/// What a row of a trace shows: power-up with this reply, or a request.
 #[derive(Clone, Copy)]
-pub(crate) enum Told<'a> {
+pub(crate) enum TraceEntry<'a> {
     Power(&'static str),
     Request(Source, &'a Event),
 }
@@ -149,15 +149,15 @@ impl Page {
         self.table.send(writer)
     }
 
-    /// Adds who asks; nobody does at power-up.
-    fn fill_source(&mut self, told: Told<'_>) {
+    /// Adds the source of the request; power-up has none.
+    fn fill_source(&mut self, entry: TraceEntry<'_>) {
         let is_text = self.table.is_text();
         let by = left("by", "by", self.columns.source.unwrap_or(0));
         let row = &mut self.table.row;
-        match told {
-            Told::Power(_) if is_text => row.cell(by, Text("")),
-            Told::Power(_) => row.option(by, None),
-            Told::Request(source, _) => match self.columns.event(source) {
+        match entry {
+            TraceEntry::Power(_) if is_text => row.cell(by, Text("")),
+            TraceEntry::Power(_) => row.option(by, None),
+            TraceEntry::Request(source, _) => match self.columns.event(source) {
                 Some(name) if !is_text => row.cell(by, Text(name)),
                 _ => {
                     self.columns.put_source(&mut row.text, source);
@@ -167,13 +167,13 @@ impl Page {
         }
     }
 
-    /// Adds the number, which `!` follows in text if the request was refused, and the times.
-    fn fill_times(&mut self, told: Told<'_>) {
+    /// Adds the number, in text with a `!` if the request was refused, and the times.
+    fn fill_times(&mut self, entry: TraceEntry<'_>) {
         let is_text = self.table.is_text();
         let row = &mut self.table.row;
-        let (number, time, total, is_refused) = match told {
-            Told::Power(_) => (0, 0, 0, false),
-            Told::Request(_, event) => {
+        let (number, time, total, is_refused) = match entry {
+            TraceEntry::Power(_) => (0, 0, 0, false),
+            TraceEntry::Request(_, event) => {
                 let is_refused = event.answer.is_err();
                 (event.number, event.time, event.total, is_refused)
             }
@@ -195,21 +195,21 @@ impl Page {
     }
 
     /// Adds the cells in front of the tables.
-    fn fill_front(&mut self, told: Told<'_>) {
+    fn fill_front(&mut self, entry: TraceEntry<'_>) {
         let has_source = self.columns.source.is_some() || !self.table.is_text();
         let is_narrow = self.table.form == TableForm::Narrow;
-        self.fill_times(told);
+        self.fill_times(entry);
         if has_source && !is_narrow {
-            self.fill_source(told);
+            self.fill_source(entry);
         }
         let row = &mut self.table.row;
         let (request, reply) = (left("request", "request", 22), left("reply", "reply", 28));
-        match told {
-            Told::Power(outcome) => {
+        match entry {
+            TraceEntry::Power(outcome) => {
                 row.cell(request, Text("power-up"));
                 row.cell(reply, Text(outcome));
             }
-            Told::Request(_, event) => {
+            TraceEntry::Request(_, event) => {
                 row.cell(request, Text(request_text(&event.request).as_str()));
                 let answer = answer_text(&event.answer, &event.fired);
                 row.cell(reply, Bytes(answer.as_slice()));
@@ -217,16 +217,16 @@ impl Page {
         }
         row.below();
         if has_source && is_narrow {
-            self.fill_source(told);
+            self.fill_source(entry);
         }
     }
 
     /// Adds the cells of a scene.
-    fn fill_scene(&mut self, told: Told<'_>, scene: &Scene) {
+    fn fill_scene(&mut self, entry: TraceEntry<'_>, scene: &Scene) {
         let (row, columns) = (&mut self.table.row, &self.columns);
-        let event = match told {
-            Told::Power(_) => None,
-            Told::Request(_, event) => Some(event),
+        let event = match entry {
+            TraceEntry::Power(_) => None,
+            TraceEntry::Request(_, event) => Some(event),
         };
         let alarm = event.and_then(|event| event.alarm());
         let alarm = alarm.map(|alarm| Text(alarm_code(alarm)));
@@ -260,15 +260,15 @@ impl Page {
                 self.table.lines.put("{}\n", &[Text(title)]);
             }
         }
-        self.fill_front(Told::Power(""));
-        self.fill_scene(Told::Power(""), scene);
+        self.fill_front(TraceEntry::Power(""));
+        self.fill_scene(TraceEntry::Power(""), scene);
         self.table.end_heading();
     }
 
     /// Adds the row of power-up, with the scene with which the first era begins, or of a request.
-    pub(crate) fn put(&mut self, told: Told<'_>, scene: &Scene) {
-        self.fill_front(told);
-        self.fill_scene(told, scene);
+    pub(crate) fn put(&mut self, entry: TraceEntry<'_>, scene: &Scene) {
+        self.fill_front(entry);
+        self.fill_scene(entry, scene);
         self.table.end_row();
     }
 

@@ -4,7 +4,7 @@ use crate::brief::{Quiet, quiet_of};
 use crate::chart::Chart;
 use crate::columns::Columns;
 use crate::ends::{RefusalCounts, put_idle, put_power, put_refused};
-use crate::page::{Page, Told};
+use crate::page::{Page, TraceEntry};
 use agc_clock::Clock;
 use agc_document::Bench;
 use agc_machine::Refusal;
@@ -187,7 +187,8 @@ impl Rows {
     fn put_row_of(&mut self, watched: &ObservedMachine, source: Source, event: &Event) {
         match self.choice.form {
             TraceFormat::Rows(_form) => {
-                self.page.put(Told::Request(source, event), &event.scene);
+                self.page
+                    .put(TraceEntry::Request(source, event), &event.scene);
                 if self.page.table.is_text() {
                     put_account(&mut self.page, watched.machine().plan(), event);
                 }

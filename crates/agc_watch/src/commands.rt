@@ -15,7 +15,7 @@ const STATUSES: &str = "Exit statuses:
    2  wrong words on the command line
    3  no memory
    4  a read or a write failed
-  10  explore: an order raises the alarm; compare: the documents differ
+  10  explore: an order raises the alarm; compare: the runs differ
   11  explore: undecided";
 
 /// The form of a word or an option of a command.

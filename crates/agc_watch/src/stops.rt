@@ -18,7 +18,7 @@ const PROGRAM: Program = Program {
     usage: "use trace, page, check, explore, bench, peaks, jobs, compare, sweep or play",
 };
 
-/// The exit status if the answer is yes: an order raises the alarm, or two documents differ.
+/// The exit status if the answer is yes: an order raises the alarm, or two runs differ.
 pub(crate) const YES: u8 = 10;
 
 /// The exit status if a search ended before it could answer.
@@ -30,7 +30,7 @@ pub(crate) enum Stop {
     ProgramFault(ProgramFault),
     /// The input is refused for the findings in these lines.
     Findings(String),
-    /// Nobody reads what is written any more.
+    /// The reader of standard output has closed it.
     ClosedPipe,
     /// The bench that was written has this many bytes, more than `agc` takes.
     TooLong(u64),

@@ -14,7 +14,7 @@ use std::alloc::Global;
 /// The most states of a search, unless the words name another number.
 const STATES: u64 = 2_000_000;
 
-/// The columns from which on a text has room for all of a row beside each other.
+/// From this many columns on, a whole row of a table fits on one line.
 const WIDE: u64 = 120;
 
 /// Why two forms of a table are wrong.
