@@ -53,12 +53,13 @@ install: $(PROGRAMS)
 	@set -e; for it in $(PLACED); do to='$(DESTDIR)'$${it#*=}; \
 	    install -d "$$to"; install -m 644 $(HERE)$${it%%=*} "$$to"; done
 	mv '$(DESTDIR)$(BASH)/agc_watch.bash' '$(DESTDIR)$(BASH)/agc_watch'
+	ln -sf agc_watch '$(DESTDIR)$(BASH)/agc'
 
 uninstall:
 	@$(MAKE) --no-print-directory -C $(HERE)libagc uninstall
 	@for it in $(NAMES); do rm -f '$(DESTDIR)$(bindir)/'$$it; done
 	@for it in $(PLACED); do rm -f '$(DESTDIR)'$${it#*=}/$$(basename $${it%%=*}); done
-	rm -f '$(DESTDIR)$(BASH)/agc_watch'
+	rm -f '$(DESTDIR)$(BASH)/agc_watch' '$(DESTDIR)$(BASH)/agc'
 	@for it in '$(docdir)/docs/embedding' '$(docdir)/docs' '$(docdir)/examples' '$(docdir)/teaching/benches' \
 	    '$(docdir)/teaching' '$(docdir)' '$(datarootdir)/agc'; \
 	    do to='$(DESTDIR)'$$it; \

@@ -2,16 +2,17 @@
 import re
 from typing import NamedTuple
 
-SIZES = {"uint8_t": 1, "bool": 1, "char": 1, "uint16_t": 2, "uint32_t": 4, "int32_t": 4, "uint64_t": 8, "size_t": 8}
+SIZES = {"uint8_t": 1, "bool": 1, "char": 1, "uint16_t": 2, "uint32_t": 4, "int32_t": 4, "uint64_t": 8, "size_t": 8, "*": 8}
 ABOUT = r"(?:/\*((?:(?!\*/).)*)\*/\n)?"
 
 
 class Field(NamedTuple):
-    """A field of a struct: `count` is 0 where it is no array."""
+    """A field of a struct: `count` is 0 where it is no array. A pointer is to as many as the field `length` says."""
     name: str
     kind: str
     count: int
     offset: int
+    length: str
 
 
 class Struct(NamedTuple):
@@ -61,8 +62,7 @@ class Header:
                       for call, body in re.findall(r"\*(agc_\w+_text)\(.*?\{\n(.*?)\n\}", text, re.DOTALL)}
         self.structs = {}
         for about, body, name in re.findall(ABOUT + r"(?:typedef|AGC_TYPE) struct \{([^}]*)\}\s*(\w+);", text, re.DOTALL):
-            if "*" not in body:  # those of pointers are for the header's own inline calls
-                self.structs[name] = self.struct_of(sentence(about), bare(body))
+            self.structs[name] = self.struct_of(sentence(about), bare(body))
         self.calls = {}
         pattern = ABOUT + r"(?:AGC_USED )?(uint32_t|Agc\w+) (agc_\w+)\(([^(){};]*)\);"
         for about, answer, name, takes in re.findall(pattern, text, re.DOTALL):
@@ -79,12 +79,14 @@ class Header:
 
     def struct_of(self, about, body):
         place, widest, fields = 0, 1, []
-        for kind, names in re.findall(r"(\w+) ([^;]+);", body):
+        for kind, star, names in re.findall(r"(\w+) (\*?)([^;*]+);", body):
             kind = kind.replace("AgcAction", "AgcRequest")
-            size, alignment = self.size_of(kind)
+            size, alignment = self.size_of(star or kind)
             for name, count in re.findall(r"(\w+)(?:\[(\w+)\])?", names):
                 place = -(-place // alignment) * alignment
-                fields.append(Field(name, kind, self.count_of(count), place))
+                if kind == "size_t" and fields and fields[-1].length:
+                    fields[-1] = fields[-1]._replace(length=name)
+                fields.append(Field(name, kind, self.count_of(count), place, star))
                 place += size * (self.count_of(count) or 1)
             widest = max(widest, alignment)
         return Struct(about, fields, -(-place // widest) * widest, widest)

@@ -2,9 +2,8 @@
 """What the tools know of the repository: the crates, what each stands on, their functions, and the edits.
 
     tools/repository.py below NAME    the crates on which a crate stands, low ones first
-    tools/repository.py above NAME    the crates that stand on it
+    tools/repository.py lanes N       how much can run at a time, where each takes N GiB of memory
     tools/repository.py uses          fails where a line of crates.txt names a crate that its sources don't
-    tools/repository.py find NAME     the places of a function, an edit or a case, and what tries it
 
 The functions of a source are found by its lines, which `rt fmt` lays out: one begins in the first
 column, or in the fifth within an impl or a trait.
@@ -33,9 +32,9 @@ def text_of(path):
 
 
 def write(path, text):
-    os.makedirs(os.path.dirname(path), exist_ok=True)
-    with open(path, "w", encoding="utf-8") as file:
-        file.write(text)
+    os.makedirs(os.path.dirname(path) or ".", exist_ok=True)
+    with open(path, "wb") as file:
+        file.write(text if isinstance(text, bytes) else text.encode("utf-8", "surrogateescape"))
 
 
 def printed(words, path=os.devnull):
@@ -55,6 +54,13 @@ def files_below(folder, ending):
     for at, folders, names in os.walk(folder):
         folders.sort()
         yield from (os.path.join(at, it) for it in sorted(names) if it.endswith(ending))
+
+
+def lanes(gigabytes):
+    """How much can run at a time, one a core, where each takes so much memory."""
+    with open("/proc/meminfo", encoding="ascii") as file:
+        free = int(re.search(r"MemAvailable:\s+(\d+)", file.read())[1]) // 2**20
+    return max(1, min(len(os.sched_getaffinity(0)), free // gigabytes))
 
 
 def is_scenario(text):
@@ -93,11 +99,6 @@ def below(names):
         for it in crates().get(name, []):
             found += [one for one in [*below([it]), it] if one not in found]
     return found
-
-
-def above(name):
-    """Returns the crates that stand on a crate."""
-    return [it for it in crates() if name in below([it])]
 
 
 def is_static(crate):
@@ -377,13 +378,6 @@ def edits():
     return Edits()
 
 
-def cases():
-    """Returns of each case, by name, its file and the line at which it begins."""
-    return {line.removeprefix("=== case "): (path, at)
-            for path in files_below(f"{TOP}/tests/cases", ".cases")
-            for at, line in enumerate(text_of(path).splitlines(), 1) if line.startswith("=== case ")}
-
-
 # Tools
 
 def tool(name):
@@ -394,41 +388,18 @@ def tool(name):
     return module
 
 
-# The command
-
-def places_of(name):
-    """Yields the places of functions, edits and cases of a name, and what tries these functions."""
-    found = {}
-    for crate in crates():
-        for file in files_below(f"{TOP}/crates/{crate}/src", ".rt"):
-            path = os.path.relpath(file, f"{TOP}/crates/{crate}")
-            for it in functions_in(text_of(file)):
-                if name in (it.name, f"{it.kind}::{it.name}"):
-                    found[key_of(crate, path, it)] = f"crates/{crate}/{path}:{it.at + 1}"
-    for key, place in found.items():
-        yield f"{place}: {key}"
-    for it in edits().all:
-        changed = [key for key in it.applied()[1] if key in found]
-        if changed or it.name == name:
-            yield f"{it.place}: edit {it.name}" + "".join(f", which changes {key}" for key in changed)
-    yield from calls_of(name.split("::")[-1], {key.split("::")[0] for key in found})
-    for case, (path, at) in cases().items():
-        if name in case:
-            yield f"{os.path.relpath(path, TOP)}:{at}: case {case}"
-    for at, line in enumerate(text_of(f"{TOP}/tests/refused/desk.cases").split("\n"), 1):
-        if line.startswith("=== case ") and name in line:
-            yield f"tests/refused/desk.cases:{at}: what must not compile"
-
+# Pages
 
 def plain(text):
     """A text as data of a page: no `<` is in it."""
     return text.replace("\\", "\\\\").replace("<", "\\l")
 
 
-def page_of(document):
-    """The page that agc_watch writes of a document: the workbench with the document in it."""
+def page_of(document, view=""):
+    """The page that agc_watch writes of a document: the workbench with the document in it, and what of it is shown."""
     front, end = text_of(WORKBENCH).rsplit("</script>", 1)
-    return f"{front}{plain(document)}</script>{end}"
+    shown = f'\n<script type="text/plain" id="view">{view}</script>' if view else ""
+    return f"{front}{plain(document)}</script>{shown}{end}"
 
 
 def checksum_of_workbench(example):
@@ -438,24 +409,12 @@ def checksum_of_workbench(example):
     return hashlib.sha256(texts.encode()).hexdigest()
 
 
-def calls_of(name, owners):
-    """Yields where the tests of some crates call a function first, and how many other files of tests do."""
-    others = 0
-    for path in [*files_below(f"{TOP}/tests/crates", ".test"), *files_below(f"{TOP}/tests/refused", ".case")]:
-        text, place = text_of(path), os.path.relpath(path, TOP)
-        call = re.search(rf"(?<![\w-]){name}(?:::<[^;{{]*?>)?\(", text)
-        if call and place.split("/")[2] in owners:
-            yield f"{place}:{text.count(chr(10), 0, call.start()) + 1}: the first call in this test"
-        others += bool(call) and place.split("/")[2] not in owners
-    if owners and others:
-        yield f"tests/: files of other tests that call {name}: {others}"
-
-
 def main(words):
-    kind, name = (words + ["", ""])[:2]
-    if kind in ("below", "above") and len(words) == 2 and name in crates():
-        found = below([name]) if kind == "below" else above(name)
-        print(*found, sep="\n", end="\n" if found else "")
+    if len(words) == 2 and words[0] == "below" and words[1] in crates():
+        print(*below([words[1]]), sep="\n")
+        return 0
+    if len(words) == 2 and words[0] == "lanes":
+        print(lanes(int(words[1])))
         return 0
     if words == ["uses"]:
         found = [*unnamed_uses()]
@@ -463,10 +422,6 @@ def main(words):
             print(f"crates.txt: {crate} names {use}, and its sources don't")
         print(f"uses: {sum(map(len, crates().values()))} edges between {len(crates())} crates, {len(found)} of no use")
         return int(bool(found))
-    if kind == "find" and len(words) == 2:
-        found = [*places_of(name)]
-        print(*found or [f"nothing is called {name}"], sep="\n")
-        return int(not found)
     print(__doc__, file=sys.stderr)
     return 2
 

@@ -14,11 +14,11 @@ import { LOG_FULL, SPENT } from "./run.js";
 import { FIRST_ASKED } from "./first.js";
 import { PLACES, counted, octal, seconds, visible } from "./words.js";
 
-/** What is full at each alarm, and where that table is. */
+/** What is full at each alarm, where that table is, and what comes before the list of those in it. */
 const TABLES = {
-  0o1201: { text: "All five VAC areas are owned", part: "areas" },
-  0o1202: { text: "A job is in each core set", part: "sets" },
-  0o1203: { text: "Nine tasks wait", part: "tasks" },
+  0o1201: { text: "All five VAC areas are owned", part: "areas", more: ". These hold them:" },
+  0o1202: { text: "A job is in each core set", part: "sets", more: ". These hold them:" },
+  0o1203: { text: "Nine tasks wait", part: "tasks", more: ":" },
 };
 
 /** At most so many percent of idle time are hardly any. */
@@ -125,7 +125,7 @@ function holders(run, { step, scene, jobsSince, tasksSince }, names) {
   if (step === null) return [];
   if (step.number === 0o1203) {
     return scene.tasks.map((it, k) =>
-      [`place ${k + 1}: task ${names.ofTask(it)}, in ${it.left} cs`,
+      [`place ${k + 1}: task ${names.ofTask(it)}, in ${seconds(it.left)}`,
         ...sinceOf(run, tasksSince[k])]);
   }
   const lines = scene.sets.map((job, k) => {
@@ -149,10 +149,10 @@ function balance(run, { row, era, begun, ended, step }) {
   if (step === null || step.number === 0o1203) return [];
   const since = era === 0 ? "the beginning" : `the restart of request ${era}`;
   const jobs = `${counted(begun, "job")} began and ${ended} ended`;
-  if (run.bench.seconds === undefined) return [` Since ${since} ${jobs}.`];
+  if (run.bench.seconds === undefined) return [`Since ${since} ${jobs}. `];
   const idle = run.idlePercent(era, row);
-  const end = idle <= HARDLY ? " There was hardly any time to end more." : "";
-  return [` Since ${since} ${jobs}, and the computer was idle ${idle} % of the time.${end}`];
+  const end = idle <= HARDLY ? "There was hardly any time to end more. " : "";
+  return [`Since ${since} ${jobs}, and the computer was idle ${idle} % of the time. ${end}`];
 }
 
 /** The jobs and tasks that are there as an era begins. @param {import("./run.js").Scene} scene @param {Names} names */
@@ -160,7 +160,7 @@ function everyone({ sets, tasks }, names) {
   return [
     ...sets.flatMap((job) =>
       (job === null ? [] : [`job ${job.number}, priority ${octal(job.priority, 2)}, at ${names.ofJob(job.at)}`])),
-    ...tasks.map((it) => `task ${names.ofTask(it)} in ${it.left} cs`),
+    ...tasks.map((it) => `task ${names.ofTask(it)} in ${seconds(it.left)}`),
   ];
 }
 
@@ -267,10 +267,9 @@ function accountOfAlarm(run, shown, names) {
   const table = TABLES[number];
   const { running } = shown.scene;
   const lines = [
-    [{ text: table.text, part: table.part }, ".", ...balance(run, shown),
-      running === 0 ? " No job was running." : ` Job ${running} ran.`],
-    [number === 0o1203 ? "These wait:" : "These hold them:"],
+    [{ text: table.text, part: table.part }, table.more],
     ...holders(run, shown, names),
+    [...balance(run, shown), running === 0 ? "No job was running." : `Job ${running} ran.`],
     ...raisedBy(run, shown, names),
     ...(shown.after === null ? []
       : [["The tables are as they were when the alarm came."], ...beginsAgain(shown.after, names)]),
@@ -291,7 +290,7 @@ function listedSentence({ line, scene }, names) {
   const [, delay, ...words] = line.split(" ");
   const [at, bank] = words.map((it) => parseInt(it, 8));
   const count = scene.tasks.length;
-  return `Task ${names.ofTask({ at, bank })} is due in ${Number(delay)} cs; ${count} of ${PLACES} `
+  return `Task ${names.ofTask({ at, bank })} is due in ${seconds(Number(delay))}; ${count} of ${PLACES} `
     + `places ${count === 1 ? "is" : "are"} in use.`;
 }
 
@@ -320,7 +319,7 @@ function replySentence(run, shown, names) {
     case SPENT: return [["The machine serves no more: its allowance is used up."]];
     case LOG_FULL:
       return [[`The log is full: it holds ${counted(run.bench.limit, "request")} of this era. Only `
-        + "restart and fresh are served now. The plan may have a greater limit."]];
+        + "restart and fresh are served now. The document may have a greater limit."]];
     case Kind.ESTABLISHED: {
       const k = scene.sets.findIndex((it) => it?.number === step?.number);
       const job = scene.sets[k];

@@ -44,7 +44,7 @@ export function firstState(given) {
     clock: { isRunning: false, speed: null, isHere: false }, dialog: null, touched: null,
     opened: [], swept: ["Stolen time"], selection: null, built: null, isEditing: false, isProjected: false, isEmbedded: false, before: null, beside: null,
     hidden: [], predicted: [], tries: 0, history: NOTHING_DONE, moved: UNMOVED, edited: null, note: NOBODY, said: NOBODY,
-    tour: { step: 0, isWhy: false, tried: [] }, ...given,
+    tour: { step: 0, tried: [] }, ...given,
   };
 }
 
@@ -109,7 +109,7 @@ function begun(s, bench, more) {
   const run = runOf(bench, requestsOf(bench), { isOpened: true, source: NO_SOURCE, about: "", ...more }, SOON);
   const isTour = s.tour.step > 0 && run.source.exercise === s.run.source.exercise && run.source.document === s.run.source.document;
   return { ...shownAgain, run, count: run.count, at: 0, seen: firstSeen(run), before: null, beside: null, touched: null, selection: null, dialog: null,
-    history: { ...left(s.history, s), branches: [] }, moved: UNMOVED, tour: isTour ? s.tour : { step: 0, isWhy: false, tried: [] },
+    history: { ...left(s.history, s), branches: [] }, moved: UNMOVED, tour: isTour ? s.tour : { step: 0, tried: [] },
     clock: { ...s.clock, isRunning: false, speed: null } };
 }
 
@@ -199,13 +199,14 @@ function change(s, given, whole = isWhole(s), slider = "") {
     history: left(base.history, base), moved: { slider, run, at, isWhole: whole } };
 }
 
-/** The same requests by another plan. @param {State} s @param {Bench} bench */
-function replan(s, bench) {
+/** The same requests with room for a million. @param {State} s */
+function withRoom(s) {
   const { run, count, at } = s;
+  const bench = { ...run.bench, limit: 1_000_000 };
   const asked = bench.seconds === undefined ? run.requests(count) : [];
   const source = { ...run.source, document: writeBench(bench), isChanged: true };
   const made = runOf(bench, asked, { title: visible(bench.title ?? run.title), about: run.about, source });
-  const history = left(branched(s.history, s, "as the plan was changed"), s);
+  const history = left(branched(s.history, s, "to have more room"), s);
   return { ...shownAgain, run: made, count: made.count, at: Math.min(at, made.count), history, before: { run, count }, beside: null,
     dialog: null, clock: stopped(s) };
 }
@@ -225,13 +226,9 @@ function edited(s, text) {
     history: left(base.history, base), edited: run, clock: stopped(s) };
 }
 
-/** The same requests, or the same scenario, on the other number of core sets, beside. @param {State} s */
-function besideSets(s) {
-  const { run, count } = s;
-  const sets = run.sets === 7 ? 8 : 7;
-  const bench = { ...run.bench, sets };
-  const made = bench.seconds === undefined ? repeatedOf(bench, run.requests(count)) : runOf(bench, []);
-  return { beside: { run: made, name: `with ${sets} core sets` }, dialog: null };
+/** The same requests with eight core sets, beside. @param {State} s */
+function besideSets({ run, count }) {
+  return { beside: { run: repeatedOf({ ...run.bench, sets: 8 }, run.requests(count)), name: "with 8 core sets" }, dialog: null };
 }
 
 /** Where the clock goes on: the run to which rows are added, behind the row that is shown. @param {State} s */
@@ -344,6 +341,9 @@ export function eventsWithout(events, gone) {
   return rest;
 }
 
+/** Up to which centisecond a guess is seen: the alarm that comes with an eighth set is later. */
+const GUESS_SEEN = 4500;
+
 /** A guess of the tour is run: from the beginning of the document itself, so that guesses don't add up. @param {State} s @param {string} name */
 function guess(s, name) {
   const first = s.tour.tried.length === 0 ? s.run : s.before?.run ?? s.run;
@@ -353,7 +353,8 @@ function guess(s, name) {
   const next = made === null ? change(base, GUESSES[name].given(first.given), true) : { ...s, run: made.run, count: made.run.count,
     at: made.run.rowAtTime(s.run.ticksAt(s.at), made.run.count), history: left(s.history, s), before: s.before, ...shownAgain, clock: stopped(s) };
   const tried = made === null ? [...s.tour.tried, { name, run: next.run }] : s.tour.tried;
-  return { ...next, before: { run: first, count: first.count }, tour: { ...s.tour, step: 4, tried } };
+  const seen = s.seen === null ? null : { from: s.seen.from, to: Math.max(s.seen.to, GUESS_SEEN) };
+  return { ...next, seen, before: { run: first, count: first.count }, tour: { ...s.tour, step: 4, tried } };
 }
 
 /** @param {string[]} names @param {string} name */
@@ -389,7 +390,7 @@ export const ACTIONS = {
   run(s) {
     if (s.clock.isRunning) return { clock: stopped(s) };
     const isEnd = s.at === s.count;
-    if (isEnd && !s.run.isFilling && nextText(s.run) === undefined) return told(s, "The time of this run is over: go to an earlier row, or change the plan.");
+    if (isEnd && !s.run.isFilling && nextText(s.run) === undefined) return told(s, "The time of this run is over: go to an earlier row, or edit the document.");
     const tour = s.tour.step === 1 ? { ...s.tour, step: 2 } : s.tour;
     return { ...(isEnd && !s.run.isFilling ? toAddTo(s) : {}), clock: { ...s.clock, isRunning: true }, said: NOBODY, note: NOBODY, isAfter: false, tour };
   },
@@ -421,9 +422,8 @@ export const ACTIONS = {
   change,
   guess,
   without: (s, name) => change(s, { event: eventsWithout(s.run.bench.event, s.run.bench.event.find((it) => it.name === name)) }, true),
-  replan,
   edited,
-  room: (s) => replan(s, { ...s.run.bench, limit: 1_000_000 }),
+  room: withRoom,
 
   begin: (s, bench, more) => begun(s, bench, more),
   kept: (s, name) => orTold(s, () => openedKept(s, name)),
@@ -439,13 +439,14 @@ export const ACTIONS = {
     return { ...opened(s, document, "My jobs"), built: { jobs, document }, isEditing: true };
   },
   reveal: (s) => ({ hidden: revealed(s) }),
-  /** What is expected of an exercise: a first wrong try gets a hint. */
+  /** What is expected of an exercise: a first wrong try gets a hint, and what is left empty stays open. */
   check(s, given) {
     const { count } = whole(s);
     const all = judged(s, given);
     if (all.length === 0) return noted(s, "Say first what you expect, or press Show what happens.");
-    const isShown = s.tries > 0 || all.every((it) => it.isRight);
-    return { count, predicted: given, tries: s.tries + 1, ...(isShown ? { hidden: revealed(s) } : {}) };
+    const isWrong = all.some((it) => !it.isRight);
+    const isShown = isWrong ? s.tries > 0 : all.length === given.length;
+    return { count, predicted: given, tries: s.tries + Number(isWrong), ...(isShown ? { hidden: revealed(s) } : {}) };
   },
 
   touch: (s, list, k) => ({ touched: { list, k } }),
@@ -454,15 +455,14 @@ export const ACTIONS = {
   projector: (s) => ({ isProjected: !s.isProjected }),
   embed: (s, isEmbedded) => ({ isEmbedded }),
   note: (s, text) => noted(s, text),
-  ...Object.fromEntries(["open", "examples", "plan", "help", "share"].map((name) => [name, (/** @type {State} */ s) => ({ dialog: { name }, clock: stopped(s) })])),
+  ...Object.fromEntries(["open", "examples", "help", "share"].map((name) => [name, (/** @type {State} */ s) => ({ dialog: { name }, clock: stopped(s) })])),
   // (what is saved is all of it)
   save: (s) => ({ count: whole(s).count, dialog: { name: "save" }, clock: stopped(s) }),
   form: (s, word) => ({ dialog: { name: "form", given: word }, clock: stopped(s) }),
   close: () => ({ dialog: null }),
 
   tour: (s, step) => ({ tour: { ...s.tour, step: step === 0 ? 0 : Math.max(step, s.tour.step) } }),
-  "tour-again": (s) => ({ ...openedKept(s, "landing-1202"), tour: { step: 1, isWhy: false, tried: [] } }),
-  why: (s) => ({ tour: { ...s.tour, isWhy: true }, clock: stopped(s) }),
+  "tour-again": (s) => ({ ...openedKept(s, "landing-1202"), tour: { step: 1, tried: [] } }),
 };
 
 /** What follows of itself: the tour goes on as an alarm is shown, or a number is changed, and never back. @param {State} s */

@@ -67,24 +67,41 @@ function aliveSince({ lanes: { jobs } }, at, row, era) {
 }
 
 /**
- * The sentence; nothing where no job comes again and again.
- * @param {import("./run.js").Run} run @param {import("./run.js").Shown} shown @param {import("./account.js").Names} names
+ * Why the table of an alarm was full: of whose jobs most are alive, and what each needs and gets of its period, in ticks;
+ * null where no job comes again and again.
+ * @param {import("./run.js").Run} run @param {import("./run.js").Shown} shown
  */
-export function becauseOf(run, shown, names) {
-  const { step, scene, jobsFrom, row, era } = shown;
-  if (run.bench.seconds === undefined || step === null || step.number === 0o1203) return "";
+export function causeOf(run, { step, scene, jobsFrom, row, era }) {
+  if (run.bench.seconds === undefined || step === null || step.number === 0o1203) return null;
   const holders = scene.sets.flatMap((job, k) => (job !== null && (step.number === 0o1202 || job.area > 0) ? [jobsFrom[k]] : []));
   const most = [...new Set(holders)].map((at) => ({ at, count: holders.filter((it) => it === at).length })).sort((one, other) => other.count - one.count)[0];
   const cost = run.bench.job.find((it) => parseInt(it.at, 8) === most?.at)?.cost;
   const period = most === undefined ? 0 : periodOf(run, most.at, row);
   const since = most === undefined ? row : aliveSince(run, most.at, row, era);
   const time = run.ticksAt(row) - run.ticksAt(since);
-  if (most === undefined || most.count < 2 || typeof cost !== "number" || period === 0 || time < 2 * period) return "";
-  const name = names.job(most.at);
-  const who = name === undefined ? "jobs of one kind are" : `${name}s are`;
-  const got = Math.round(gotBy(run, most.at, since, row) * period / time);
-  const every = period === 100 ? "second" : `${short(period)}`.replace(/^2 s$/, "two");
-  if (got >= cost) return `${COUNTS[most.count]} ${who} alive at once.`;
-  const [needs, gets] = [cost, got].map(short(cost) === short(got) ? seconds : short);
-  return `${COUNTS[most.count]} ${who} alive at once: each needs ${needs}, but gets only ${gets} of every ${every}.`;
+  if (most === undefined || most.count < 2 || typeof cost !== "number" || period === 0 || time < 2 * period) return null;
+  const others = scene.sets.filter((job, k) => job !== null && jobsFrom[k] !== most.at);
+  return { ...most, others: holders.length - most.count, areAsleep: others.every((it) => it?.asleep),
+    ...{ cost, period, since }, got: Math.round(gotBy(run, most.at, since, row) * period / time) };
+}
+
+/** What each needs and gets, so that they differ as they are written. @param {{ cost: number, got: number }} cause */
+export function needsOf({ cost, got }) {
+  return [cost, got].map(short(cost) === short(got) ? seconds : short);
+}
+
+/**
+ * The sentence; nothing where no job comes again and again.
+ * @param {import("./run.js").Run} run @param {import("./run.js").Shown} shown @param {import("./account.js").Names} names
+ */
+export function becauseOf(run, shown, names) {
+  const cause = causeOf(run, shown);
+  if (cause === null) return "";
+  const { count, cost, got, period } = cause;
+  const name = names.job(cause.at);
+  if (got >= cost) return `${COUNTS[count]} ${name === undefined ? "jobs of one kind" : `${name}s`} are alive at once.`;
+  const [needs, gets] = needsOf(cause);
+  const every = period === 100 ? "second" : short(period).replace(/^2 s$/, "two");
+  return `Each ${name ?? "job of one kind"} needs ${needs}, but gets only ${gets} of every ${every}. So old ones are still alive when new ones come: `
+    + `${COUNTS[count].toLowerCase()} at once.`;
 }

@@ -31,8 +31,7 @@ function whoOf(run, event) {
 export function begunOf(bench, more = {}) {
   const { seconds: length, seed, steal, job, event } = bench;
   const run = Object.assign(new Run(bench), more);
-  run.head.clock = new Clock({ seconds: length ?? LONGEST, seed, steal, job, event });
-  run.checkpoints = [run.head.copy()];
+  run.startClock(new Clock({ seconds: length ?? LONGEST, seed, steal, job, event }));
   return run;
 }
 

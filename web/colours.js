@@ -25,17 +25,17 @@ export const GROUND = {
   light: {
     ...{ ink: "#1c2530", soft: "#5b6775", faint: "#8b96a3", line: "#dfe4ea", paper: "#fff" },
     ...{ alarm: "#c8102e", act: "#1f5fd0", used: "#aeb8c3", stolen: "#b4bcc6", idle: "#9db7c9" },
-    ...{ curve: "#4a5f7a", work: "#d7dfe8", pale: "#000" },
+    ...{ curve: "#4a5f7a", work: "#d7dfe8", track: "#f1f3f6", pale: "#000" },
   },
   dark: {
     ...{ ink: "#e7ebf0", soft: "#a7b1bd", faint: "#7d8895", line: "#2d3540", paper: "#191f27" },
     ...{ alarm: "#ff6b7d", act: "#7fa8ff", used: "#5a6673", stolen: "#4d5763", idle: "#54738a" },
-    ...{ curve: "#a9bdd6", work: "#2c3a4b", pale: "#fff" },
+    ...{ curve: "#a9bdd6", work: "#2c3a4b", track: "#1f2731", pale: "#fff" },
   },
   forced: {
     ...{ ink: "CanvasText", soft: "CanvasText", faint: "CanvasText", line: ground(15), paper: "Canvas" },
     ...{ alarm: "Highlight", act: "LinkText", used: ground(25), stolen: ground(25), idle: "CanvasText" },
-    ...{ curve: "CanvasText", work: ground(15), pale: "#000" },
+    ...{ curve: "CanvasText", work: ground(15), track: "Canvas", pale: "#000" },
   },
 };
 

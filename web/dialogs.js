@@ -5,7 +5,6 @@ import * as files from "./files.js";
 import { formOf } from "./forms.js";
 import { help } from "./help.js";
 import { sharedMark } from "./keep.js";
-import { planOf } from "./plan.js";
 import { drawCard } from "./cards.js";
 import { MOST_BYTES } from "./bench.js";
 import { paint } from "./drawing-canvas.js";
@@ -18,15 +17,15 @@ import { act, differ, isHidden, sceneAfter, state } from "./state.js";
 /** How many letters a link has at most. */
 const MOST_LINK = 8000;
 
-/** A card of a document: its title, its name, and what it says of itself. @param {{ kind: string, name: string, text: string }} kept */
-function cardOf({ kind, name, text }) {
+/** A card of a document: its title, its name, and what it says of itself. @param {{ kind: string, name: string, text: string }} kept @param {number} k @param {{ length: number }} all */
+function cardOf({ kind, name, text }, k, { length }) {
   const title = kind === "exercise" ? files.questionOf(text).split("\n")[0] : TITLES[name] ?? /^title = "(.*)"$/m.exec(text)?.[1] ?? name;
   const about = kind === "exercise" ? "" : files.firstSentence(text);
   // (a picture of an exercise would answer it)
   const pictures = kind === "exercise" ? [] : [make("canvas", { class: "picture", "aria-hidden": "true" })];
   for (const canvas of pictures) drawCard({ name, text, canvas });
   return make("li", {}, ...pictures, make("button", { type: "button", class: "choice", onclick: () => act("kept", name) }, make("b", {}, title)),
-    make("span", { class: "name" }, name), make("span", { class: "about" }, ...withCode(about)));
+    make("span", { class: "name" }, kind === "exercise" ? `${k + 1} of ${length}` : name), make("span", { class: "about" }, ...withCode(about)));
 }
 
 /** What the examples are called. @type {Record<string, string>} */
@@ -53,11 +52,6 @@ const DIALOGS = {
     act("close");
     act("ask", line);
   }),
-  plan(now) {
-    const { run, beside } = now;
-    const name = beside !== null ? "Stop comparing" : `Compare with ${run.sets === 7 ? "eight" : "seven"} core sets`;
-    return { heading: "Plan", children: [make("p", {}, make("button", { type: "button", id: "beside-sets-button" }, name)), ...planOf(run.bench, (bench) => act("replan", bench))] };
-  },
   save: (now) => savingOf(now),
   share: (now) => sharingOf(now),
 };
@@ -160,6 +154,8 @@ export function dialogs(now, before) {
   const element = by("dialog");
   if (dialog === null) {
     if (element.open) element.close();
+    // (what is opened is seen from its top)
+    if (now.run !== before.run) window.scrollTo(0, 0);
     return;
   }
   const isSame = element.open && before.dialog?.name === dialog.name;

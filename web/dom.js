@@ -21,9 +21,12 @@ export function make(name, given = {}, ...children) {
   return made;
 }
 
-/** An element's text: only another one is written. @param {any} node @param {string} text */
+/** An element's text: only another one is written, and into the text that is there, so that no style is worked out anew. @param {any} node @param {string} text */
 export function set(node, text) {
-  if (node.textContent !== text) node.textContent = text;
+  if (node.textContent === text) return;
+  const { firstChild } = node;
+  if (text !== "" && firstChild instanceof Text && firstChild === node.lastChild) firstChild.data = text;
+  else node.textContent = text;
 }
 
 /** An attribute: only another one is written. Null takes it away. @param {any} node @param {string} name @param {string | null} value */
@@ -48,6 +51,20 @@ function withLinks(text) {
 export function withCode(text) {
   return text.split("`").flatMap((it, k) => (k % 2 === 1 ? [make("code", {}, it)]
     : it.split(/\*([^*]+)\*/).flatMap((one, n) => (n % 2 === 1 ? [make("em", {}, one)] : withLinks(one)))));
+}
+
+/** A document in which each line of its script has the number of its first request beside it. @param {string} text @returns {(Node | string)[]} */
+export function withNumbers(text) {
+  const script = text.startsWith("[") ? null : /^script = \[\n[^\]]*/m.exec(text);
+  if (script === null) return [text];
+  const end = script.index + script[0].length;
+  let next = 1;
+  const lines = script[0].split(/^/m).map((line) => {
+    const first = next;
+    next += line.match(/"[^"]*"/g)?.length ?? 0;
+    return make("span", { class: "line", "data-first": next > first ? String(first) : "" }, line);
+  });
+  return [text.slice(0, script.index), ...lines, make("span", { class: "line", "data-first": "" }, "]"), text.slice(end + 1)];
 }
 
 /** Gives an element just these children. @param {string | HTMLElement} where @param {(Node | string)[]} children */

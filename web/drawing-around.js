@@ -6,8 +6,8 @@
  */
 import { lastUpTo } from "./lanes.js";
 import { textWidth } from "./drawing-text.js";
-import { alarmCode, whenOf } from "./drawing-words.js";
-import { octal, visible } from "./words.js";
+import { restartOf, whenOf } from "./drawing-words.js";
+import { visible } from "./words.js";
 
 /** How much larger a title is than the rest, and how many names a legend tells. */
 const TITLE = 1.5;
@@ -26,11 +26,6 @@ export function drawTitle(sheet) {
   }
   sheet.text(text, 8, 0.9 * size, { size, isBold: true });
   sheet.y += Math.ceil(1.7 * size);
-}
-
-/** The rows of these that are seen. @param {Sheet} sheet @param {number[]} rows */
-function seen({ scale, count }, rows) {
-  return rows.filter((row) => row <= count && scale.placeOf(row) >= scale.from && scale.placeOf(row) <= scale.to);
 }
 
 /**
@@ -61,14 +56,15 @@ function placesOf(sheet, alarms, levels) {
 
 /** The events' names, and below them the alarms' codes, at the tops of their lines. @param {Sheet} sheet */
 export function drawEvents(sheet) {
-  const { run, count, scale, line } = sheet;
+  const { run, count, line } = sheet;
   const { events } = run.lanes;
   sheet.top = sheet.y;
-  if (!sheet.has("events")) return;
   const many = lastUpTo(events.rows.items, events.count, count) + 1;
-  if (many > 0) drawNames(sheet, many);
-  const alarms = seen(sheet, run.alarms).map((row) => ({ row, x: sheet.xOf(scale.placeOf(row)), text: alarmCode(run, row) }));
-  const places = placesOf(sheet, alarms.map((it) => ({ ...it, text: `alarm ${it.text}` })), 1)
+  if (many > 0 && sheet.has("events")) drawNames(sheet, many);
+  if (!sheet.has("alarms")) return;
+  const named = sheet.seen(run.alarms).map((it) => ({ ...it, text: restartOf(run, it.row) }));
+  const alarms = named.map((it) => ({ ...it, text: it.text.replace("alarm ", "") }));
+  const places = placesOf(sheet, named, 1)
     ?? placesOf(sheet, alarms, 1) ?? placesOf(sheet, alarms, 2) ?? placesOf(sheet, thinned(sheet, alarms), 2) ?? [];
   const levels = places.some((it) => it.level === 1) ? 2 : 1;
   for (const { level, left, text, row } of places) {
@@ -118,25 +114,20 @@ function drawNames(sheet, many) {
 export function drawLines(sheet) {
   const { run, scale, top, y } = sheet;
   sheet.bottom = y;
-  const rest = sheet.marks;
+  const lanes = sheet.marks;
   sheet.marks = [];
+  for (const it of sheet.has("notes") ? sheet.bands : []) {
+    if (it.kind === "set") sheet.rect([sheet.left, it.top + 2, sheet.right - sheet.left, it.bottom - it.top - 4], "track");
+  }
   for (const { place } of scale.marks(sheet.right - sheet.left)) {
     sheet.path([[sheet.xOf(place), top], [sheet.xOf(place), y]], { stroke: "line", width: 1 });
   }
-  sheet.under = sheet.marks;
-  sheet.marks = rest;
-  for (const row of seen(sheet, run.lanes.eras)) {
-    const x = sheet.xOf(scale.placeOf(row));
+  sheet.marks = [...sheet.marks, ...lanes];
+  for (const { row, x } of sheet.seen(run.lanes.eras)) {
     const isAlarm = run.isAlarm(row);
-    const what = isAlarm ? `alarm ${alarmCode(run, row)}` : run.lines[row];
     sheet.path([[x, sheet.tops.get(row) ?? top], [x, y]], { stroke: isAlarm ? "alarm" : "ink", width: isAlarm ? 2 : 1.5,
-      ...(isAlarm ? {} : { isDashed: true }), told: { kind: "text", text: `${what}, ${whenOf(run, row)}` } });
+      ...(isAlarm ? {} : { isDashed: true }), told: { kind: "text", text: `${restartOf(run, row)}, ${whenOf(run, row)}` } });
     if (isAlarm) sheet.bands.push({ kind: "alarm", row, left: x - 3, right: x + 3, ...{ top, bottom: y } });
-  }
-  const { position } = sheet.view;
-  if (typeof position === "number" && seen(sheet, [position]).length === 1) {
-    const x = sheet.xOf(scale.placeOf(position));
-    sheet.path([[x, top], [x, y]], { stroke: "act", width: 2 });
   }
 }
 
@@ -161,48 +152,42 @@ export function drawAxis(sheet) {
   sheet.y += sheet.line * (hasTimes ? 2 : 1) + 8;
 }
 
-/** What the marks mean, and whose each colour is. @param {Sheet} sheet */
+/** What the marks mean, and whose each colour is: entries one after the other, in lines. @param {Sheet} sheet */
 export function drawLegend(sheet) {
   if (!sheet.has("legend")) return;
-  const legend = new Legend(sheet);
+  let [x, y] = [8, sheet.y + 8];
+  const add = (/** @type {string} */ text, /** @type {(y: number) => void} */ draw) => {
+    const width = 24 + textWidth(text, sheet.size);
+    if (x > 8 && x + width > sheet.width - 8) [x, y] = [8, y + sheet.line];
+    draw(y + (sheet.line - 12) / 2);
+    sheet.text(text, x + 24, y + sheet.line / 2, { fill: "soft" });
+    x += width + 18;
+  };
+  const { marks } = sheet;
   for (const [way, text] of [["b", "a job runs"], ["p", "it waits"], ["h", "it sleeps"]]) {
-    const isThere = sheet.marks.some((it) => it.kind === "rect" && it.fill.startsWith(way) && /^.[0-9]/.test(it.fill));
-    if (isThere) legend.add(text, (x, y) => sheet.rect([x, y, 18, 12], `${way}0`));
+    const isThere = marks.some((it) => it.kind === "rect" && it.fill.startsWith(way) && /^.[0-9]/.test(it.fill));
+    if (isThere) add(text, (top) => sheet.rect([x, top, 18, 12], `${way}7`));
   }
-  const lines = sheet.marks.filter((it) => it.kind === "path" && it.told?.kind === "text");
   for (const [stroke, text] of [["alarm", "alarm"], ["ink", "restart or fresh start"]]) {
-    const line = /** @type {import("./drawing.js").Path | undefined} */ (lines.find((it) => it.kind === "path" && it.stroke === stroke));
-    const { width, isDashed } = line ?? {};
-    if (line !== undefined) legend.add(text, (x, y) => sheet.path([[x + 9, y - 1], [x + 9, y + 13]], { stroke, width, ...(isDashed ? { isDashed } : {}) }));
+    const line = marks.find((it) => it.kind === "path" && it.stroke === stroke && it.told?.kind === "text");
+    const { width, isDashed } = /** @type {import("./drawing.js").Path} */ (line ?? {});
+    const look = { stroke, width, ...(isDashed ? { isDashed } : {}) };
+    if (line !== undefined) add(text, (top) => sheet.path([[x + 9, top - 1], [x + 9, top + 13]], look));
   }
+  for (const [name, colour] of namedJobs(sheet)) add(name, (top) => sheet.rect([x, top, 12, 12], `b${colour}`));
+  sheet.y = y + sheet.line;
+}
+
+/** The first jobs with their colours; where some have names, those without one are told on their blocks alone. @param {Sheet} sheet */
+function namedJobs(sheet) {
   const { jobs } = sheet.run.lanes;
+  /** @type {Map<string, number>} */
   const named = new Map();
   for (let id = 1; id < jobs.count && named.size < MOST_NAMED; id++) {
     const at = jobs.at.items[id];
-    named.set(sheet.names.job(at) ?? octal(at, 5), sheet.colours.of(at));
+    named.set(sheet.jobName(at), sheet.colours.of(at));
   }
-  // (where jobs have names, those without one are told on their blocks alone)
-  const isNamed = [...named.keys()].some((it) => !/^[0-7]{5}$/.test(it));
-  for (const [name, colour] of named) if (!isNamed || !/^[0-7]{5}$/.test(name)) legend.add(name, (x, y) => sheet.rect([x, y, 12, 12], `b${colour}`));
-  sheet.y = legend.y + sheet.line;
-}
-
-/** Entries of a legend one after the other, in lines. */
-class Legend {
-  /** @param {Sheet} sheet */
-  constructor(sheet) {
-    this.sheet = sheet;
-    this.x = 8;
-    this.y = sheet.y + 8;
-  }
-
-  /** @param {string} text @param {(x: number, y: number) => void} draw */
-  add(text, draw) {
-    const { sheet } = this;
-    const width = 24 + textWidth(text, sheet.size);
-    if (this.x > 8 && this.x + width > sheet.width - 8) [this.x, this.y] = [8, this.y + sheet.line];
-    draw(this.x, this.y + (sheet.line - 12) / 2);
-    sheet.text(text, this.x + 24, this.y + sheet.line / 2, { fill: "soft" });
-    this.x += width + 18;
-  }
+  const all = [...named];
+  const withName = all.filter(([name]) => !/^[0-7]{5}$/.test(name));
+  return withName.length > 0 ? withName : all;
 }

@@ -1,5 +1,6 @@
 /** The pen that draws a picture on a canvas. */
 import { paletteOf } from "./colours.js";
+import { isHatched, shapeOf, strokeWidth } from "./drawing-marks.js";
 
 const FONT = "system-ui, sans-serif";
 
@@ -12,102 +13,46 @@ export function paint(canvas, picture) {
   const context = canvas.getContext("2d");
   if (context === null) return;
   context.setTransform(ratio, 0, 0, ratio, 0, 0);
-  const pen = new Pen(context, paletteOf(theme));
+  const palette = paletteOf(theme);
+  /** @type {Map<string, CanvasPattern | string>} */
+  const hatches = new Map();
   for (const mark of marks) {
-    if (mark.kind === "rect") pen.rect(mark);
-    else if (mark.kind === "text") pen.text(mark);
-    else pen.path(mark);
+    if (mark.kind === "text") {
+      write(context, palette, mark);
+      continue;
+    }
+    const { fill = "none", stroke, isDashed } = mark;
+    const shape = new Path2D(shapeOf(mark));
+    if (isHatched(mark) && !hatches.has(fill)) hatches.set(fill, hatch(context, palette, fill.slice(1)));
+    context.fillStyle = hatches.get(fill) ?? palette[fill];
+    if (fill !== "none") context.fill(shape);
+    if (stroke === undefined) continue;
+    context.setLineDash(isDashed ? [4, 3] : []);
+    context.strokeStyle = palette[stroke];
+    context.lineWidth = strokeWidth(mark);
+    context.stroke(shape);
   }
 }
 
-class Pen {
-  /** @param {CanvasRenderingContext2D} context @param {Record<string, string>} palette */
-  constructor(context, palette) {
-    this.context = context;
-    this.palette = palette;
-    /** @type {Map<string, any>} */
-    this.hatched = new Map();
-  }
+/** How a block is filled whose job sleeps. @param {CanvasRenderingContext2D} context @param {Record<string, string>} palette @param {string} number */
+function hatch(context, palette, number) {
+  const made = document.createElement("canvas");
+  [made.width, made.height] = [8, 8];
+  const pen = made.getContext("2d");
+  const pale = palette[`p${number}`];
+  if (pen === null) return pale;
+  pen.fillStyle = pale;
+  pen.fillRect(0, 0, 8, 8);
+  pen.strokeStyle = palette[`b${number}`];
+  pen.lineWidth = 1.6;
+  pen.stroke(new Path2D("M-8 8l8-8M0 8l8-8M8 8l8-8"));
+  return context.createPattern(made, "repeat") ?? pale;
+}
 
-  /** A colour by its name; hatched where a job sleeps. @param {string} name */
-  fill(name) {
-    if (!/^h[0-9]/.test(name)) return this.palette[name];
-    const known = this.hatched.get(name) ?? this.hatch(name.slice(1));
-    this.hatched.set(name, known);
-    return known;
-  }
-
-  /** @param {string} number */
-  hatch(number) {
-    const made = document.createElement("canvas");
-    [made.width, made.height] = [8, 8];
-    const pen = made.getContext("2d");
-    const pale = this.palette[`p${number}`];
-    if (pen === null) return pale;
-    pen.fillStyle = pale;
-    pen.fillRect(0, 0, 8, 8);
-    pen.strokeStyle = this.palette[`b${number}`];
-    pen.lineWidth = 1.6;
-    for (const x of [-8, 0, 8]) {
-      pen.moveTo(x, 8);
-      pen.lineTo(x + 8, 0);
-    }
-    pen.stroke();
-    return this.context.createPattern(made, "repeat") ?? pale;
-  }
-
-  /** @param {import("./drawing.js").Rect} mark */
-  rect({ x, y, width, height, fill, stroke, isDashed }) {
-    const { context } = this;
-    if (fill !== "none") {
-      context.fillStyle = this.fill(fill);
-      context.fillRect(x, y, width, height);
-    }
-    if (stroke === undefined) return;
-    context.setLineDash(isDashed ? [4, 3] : []);
-    context.strokeStyle = this.palette[stroke];
-    context.lineWidth = isDashed ? 1 : 2;
-    context.strokeRect(x, y, width, height);
-  }
-
-  /** @param {import("./drawing.js").Text} mark */
-  text({ x, y, text, size, fill, isBold, anchor }) {
-    const { context } = this;
-    context.font = `${isBold ? "bold " : ""}${size}px ${FONT}`;
-    context.textAlign = anchor === "middle" ? "center" : anchor ?? "start";
-    context.fillStyle = this.palette[fill];
-    context.fillText(text, x, y);
-  }
-
-  /** @param {import("./drawing.js").Path} mark */
-  path({ points, fill, stroke, width = 1, isDashed, isArrow }) {
-    const { context } = this;
-    if (points.length === 0) return;
-    context.beginPath();
-    context.moveTo(points[0][0], points[0][1]);
-    if (isArrow) context.quadraticCurveTo(points[1][0], points[1][1], points[2][0], points[2][1]);
-    else for (const [x, y] of points.slice(1)) context.lineTo(x, y);
-    if (fill !== undefined) {
-      context.fillStyle = this.palette[fill];
-      context.fill();
-    }
-    if (stroke === undefined) return;
-    context.setLineDash(isDashed ? [4, 3] : []);
-    context.strokeStyle = this.palette[stroke];
-    context.lineWidth = width;
-    context.stroke();
-    if (isArrow) this.head(points, stroke, width);
-  }
-
-  /** @param {number[][]} points @param {string} stroke @param {number} width */
-  head([, [a, b], [x, y]], stroke, width) {
-    const { context } = this;
-    const angle = Math.atan2(y - b, x - a);
-    const far = 5 + 2 * width;
-    context.fillStyle = this.palette[stroke];
-    context.beginPath();
-    context.moveTo(x, y);
-    for (const turn of [0.4, -0.4]) context.lineTo(x - far * Math.cos(angle + turn), y - far * Math.sin(angle + turn));
-    context.fill();
-  }
+/** @param {CanvasRenderingContext2D} context @param {Record<string, string>} palette @param {import("./drawing.js").Text} mark */
+function write(context, palette, { x, y, text, size, fill, isBold, anchor }) {
+  context.font = `${isBold ? "bold " : ""}${size}px ${FONT}`;
+  context.textAlign = anchor === "middle" ? "center" : anchor ?? "start";
+  context.fillStyle = palette[fill];
+  context.fillText(text, x, y);
 }

@@ -5,10 +5,11 @@
  * @typedef {import("./drawing.js").Sheet} Sheet
  * @typedef {import("./drawing-scale.js").Scale} Scale
  */
+import { short } from "./because.js";
 import { outcomeOf } from "./chart.js";
-import { Scale as ScaleOf } from "./drawing-scale.js";
+import { LEAST_TOLD } from "./drawing-marks.js";
 import { textWidth } from "./drawing-text.js";
-import { State, lastUpTo } from "./lanes.js";
+import { State } from "./lanes.js";
 import { stolenParts } from "./stolen.js";
 import { octal } from "./words.js";
 
@@ -19,17 +20,11 @@ const LEAST_BLOCK = 0.8;
 const MARK = 4;
 const LEAST_MARKED = 10;
 
-/** How wide something is at least that has a title. */
-const LEAST_TOLD = 3;
-
 /** How wide a part of a strip is at least that has its number. */
-const LEAST_NUMBERED = 36;
+const LEAST_NUMBERED = 20;
 
 /** How many places there are in each table of which a strip tells how full it is. */
 const MOST = { areas: 5, tasks: 9 };
-
-/** A task waits at most so long, in ticks. */
-const LONGEST_WAIT = 16_300;
 
 /** @param {Sheet} sheet */
 export function drawSets(sheet) {
@@ -38,39 +33,40 @@ export function drawSets(sheet) {
   sheet.run.lanes.sets.forEach((lane, k) => {
     const isEmpty = lane.count === 1 && lane.ids.items[0] === 0;
     const high = isEmpty && isStill ? Math.max(sheet.size + 3, sheet.view.high / 2) : sheet.view.high;
-    sheet.name(`set ${k}`, sheet.y + high / 2);
-    sheet.bands.push({ kind: "set", k, top: sheet.y, bottom: sheet.y + high });
-    ground(sheet, sheet.y, high);
-    drawSet(sheet, k, { top: sheet.y + 2, high: high - 4, isNamed: true });
-    sheet.y += high;
+    const top = sheet.lane(`set ${k}`, high, { kind: "set", k });
+    drawSet(sheet, k, sheet.scale, [top + 2, high - 4]);
   });
   drawDeadlines(sheet);
   sheet.y += 6;
 }
 
-/** The line below a lane. @param {Sheet} sheet @param {number} top @param {number} high */
-function ground({ under, left, right }, top, high) {
-  under.push({ kind: "rect", x: left, y: top + high - 0.5, width: right - left, height: 0.5, fill: "line" });
-}
-
-/** The jobs of a core set. @param {Sheet} sheet @param {number} k @param {{ top: number, high: number, isNamed: boolean, scale?: Scale }} how */
-function drawSet(sheet, k, { top, high, isNamed, scale = sheet.scale }) {
+/** The jobs of a core set, of this run or the one before. @param {Sheet} sheet @param {number} k @param {Scale} scale @param {number[]} box top and height */
+function drawSet(sheet, k, scale, [top, high]) {
   const { lanes } = scale.run;
-  const lane = lanes.sets[k];
-  eachBlock(sheet, lane.keys.items, lane.count, scale, (entry, left, right) => {
+  const isNamed = scale === sheet.scale;
+  eachBlock(sheet, k, scale, (entry, left, right) => {
     const block = lanes.block(k, entry);
     if (block === null) return false;
     const colour = sheet.colours.of(block.at);
     const how = block.state === State.RUNS ? "b" : block.state === State.SLEEPS ? "h" : "p";
-    const gap = right - left > 3 ? 0.7 : 0;
-    const told = /** @type {const} */ ({ kind: "job", set: k, entry });
-    sheet.rect([left, top, right - left - gap, high], `${how}${colour}`, isNamed && right - left >= LEAST_TOLD ? { told } : {});
+    const box = [left, right, top, high];
+    const end = sheet.block(box, `${how}${colour}`, isNamed ? { kind: "job", set: k, entry } : undefined);
     if (!isNamed) return true;
-    const late = sheet.xOf(dueOf(sheet, block.id), scale);
-    if (late < right) sheet.rect([Math.max(left, late), top + high - 4, right - Math.max(left, late) - gap, 4], "alarm");
-    nameBlock(sheet, block, [left, right, top, high]);
+    const late = Math.max(left, sheet.xOf(dueOf(sheet, block.id)));
+    if (late < right) sheet.rect([late, top + high - 4, end - late, 4], "alarm");
+    const waits = scale.endOf(block.to) - scale.placeOfKey(block.from);
+    const isTold = how === "p" && scale.isTime && sheet.has("notes");
+    sheet.label([...(isTold ? [`${sheet.jobName(block.at)} waits ${short(waits)}`] : []), ...jobTexts(sheet, block, how === "h")], box,
+      { fill: how === "b" ? `i${colour}` : "pale", ...(how === "h" ? { ground: `p${colour}` } : {}) });
     return true;
   });
+}
+
+/** What a job is called on its block, the longest first. @param {Sheet} sheet @param {{ at: number, number: number }} job @param {boolean} [isAsleep] */
+function jobTexts({ names }, { at, number }, isAsleep = false) {
+  const name = names.job(at);
+  return [...(isAsleep ? [`${name ?? `job ${number}`}, asleep`] : []),
+    ...(name === undefined ? [`job ${number} at ${octal(at, 5)}`, `job ${number}`, String(number)] : [name])];
 }
 
 /** When a job has to have ended, in ticks. @param {Sheet} sheet @param {number} id */
@@ -81,20 +77,14 @@ function dueOf({ run, scale, deadlines }, id) {
 
 /** Where jobs that have a deadline are asked for, a mark upwards, and their deadlines, downwards: a red one where it is missed. @param {Sheet} sheet */
 function drawDeadlines(sheet) {
-  const { run: { lanes, bench }, run, scale, left, right, deadlines } = sheet;
+  const { run: { lanes }, run, scale, left, right, deadlines } = sheet;
   if (deadlines.size === 0 || !scale.isTime) return;
   const { jobs } = lanes;
-  const longest = Math.max(...bench.job.map((it) => it.deadline ?? 0));
-  const first = jobs.lastUpTo(2 * run.rowAtTime(Math.max(0, Math.floor(scale.from) - longest), scale.count) - 1);
-  const seen = [];
-  for (let id = Math.max(1, first); id < jobs.count && jobs.born.items[id] >> 1 <= scale.count; id++) {
-    const due = dueOf(sheet, id);
-    if (due === Infinity || due < scale.from || run.ticksAt(jobs.born.items[id] >> 1) > scale.to) continue;
-    seen.push({ id, due });
-  }
+  const seen = [...jobs.over(0, scale.lastKey)].map((id) => ({ id, due: dueOf(sheet, id) }))
+    .filter(({ id, due }) => due !== Infinity && due >= scale.from && run.ticksAt(jobs.born.items[id] >> 1) <= scale.to);
   if (seen.length * LEAST_MARKED > right - left) return;
   for (const { id, due } of seen) {
-    const [born, gone] = [jobs.born.items[id], jobs.gone.items[id] || 2 * scale.count + 2];
+    const [born, gone] = [jobs.born.items[id], jobs.gone.items[id] || scale.lastKey + 1];
     const isMissed = run.ticksAt(Math.min(scale.count, gone >> 1)) > due;
     markAt(sheet, jobs.place.items[id], run.ticksAt(born >> 1), 1, "ink");
     const last = isMissed ? scale.keyAt(due) : gone - 1;
@@ -113,115 +103,75 @@ function markAt(sheet, set, time, up, fill) {
 }
 
 /**
- * Draws the entries of a lane that are seen: each gets its left and its right. Of those that are too
+ * Draws the entries of a core set that are seen: each gets its left and its right. Of those that are too
  * brief one is drawn in each point.
  * @param {Sheet} sheet
- * @param {ArrayLike<number>} keys
- * @param {number} count
+ * @param {number} k
  * @param {Scale} scale
  * @param {(entry: number, left: number, right: number) => boolean} draw whether it was drawn
  */
-function eachBlock(sheet, keys, count, scale, draw) {
-  const last = 2 * scale.count + 1;
-  const end = sheet.xOf(scale.end, scale);
-  const at = (/** @type {number} */ entry) =>
-    (entry < count && keys[entry] <= last ? sheet.xOf(scale.placeOfKey(keys[entry]), scale) : end);
+function eachBlock(sheet, k, scale, draw) {
+  const lane = scale.run.lanes.sets[k];
+  const end = sheet.xOf(scale.end);
   let dense = -1;
-  let entry = Math.max(0, lastUpTo(keys, count, scale.keyAt(scale.from)));
-  while (entry < count && keys[entry] <= last) {
-    const [x, next] = [at(entry), at(entry + 1)];
+  let entry = Math.max(0, lane.entryAt(scale.keyAt(scale.from)));
+  while (entry < lane.count && lane.keys.items[entry] <= scale.lastKey) {
+    const [x, next] = [sheet.xOf(scale.placeOfKey(lane.keys.items[entry])), sheet.xOf(scale.endOf(lane.endOf(entry)))];
     if (x > sheet.right) break;
     const isBrief = next - x < LEAST_BLOCK;
-    // (what comes as the run ends is seen, too)
-    const isLast = x >= end;
     const point = Math.min(Math.floor(x), Math.floor(sheet.right) - 1);
-    if (isLast) draw(entry, sheet.right - LEAST_TOLD, sheet.right);
+    // (what comes as the run ends is seen, too)
+    if (x >= end) draw(entry, sheet.right - LEAST_TOLD, sheet.right);
     else if (next >= sheet.left && !(isBrief && point === dense)) {
-      const [left, right] = isBrief ? [Math.max(point, sheet.left), point + 1] : [Math.max(sheet.left, x), Math.min(sheet.right, next)];
+      const [left, right] = isBrief ? [Math.max(point, sheet.left), point + 1] : sheet.within(x, next);
       if (draw(entry, left, right) && isBrief) dense = point;
     }
     entry += 1;
     // (passes over what begins in the point that is drawn)
-    if (isBrief && dense === point) {
-      const skip = lastUpTo(keys, count, scale.keyAt(placeAt(sheet, point + 1, scale)));
-      entry = Math.max(entry, skip);
-    }
+    if (isBrief && dense === point) entry = Math.max(entry, lane.entryAt(scale.keyAt(sheet.placeAt(point + 1) - 1e-6)));
   }
-}
-
-/** @param {Sheet} sheet @param {number} x @param {Scale} scale */
-function placeAt({ left, right }, x, { from, to }) {
-  return from + ((x - left) / (right - left)) * (to - from) - 1e-6;
-}
-
-/**
- * A job's name on its block: of those that fit the first.
- * @param {Sheet} sheet
- * @param {import("./lanes.js").Block} block
- * @param {number[]} box left, right, top and height
- */
-function nameBlock(sheet, block, [left, right, top, high]) {
-  const room = right - left - 8;
-  if (room < sheet.size * 0.6 || high < sheet.size + 2) return;
-  const name = sheet.names.job(block.at);
-  const isAsleep = block.state === State.SLEEPS;
-  const texts = [...(isAsleep ? [`${name ?? `job ${block.number}`}, asleep`] : []),
-    ...(name === undefined ? [`job ${block.number} at ${octal(block.at, 5)}`, `job ${block.number}`, String(block.number)] : [name])];
-  const text = texts.find((it) => textWidth(it, sheet.size) <= room);
-  if (text === undefined) return;
-  const colour = sheet.colours.of(block.at);
-  sheet.text(text, left + 4, top + high / 2, { fill: block.state === State.RUNS ? `i${colour}` : "pale",
-    ...(isAsleep ? { ground: `p${colour}` } : {}) });
 }
 
 /** @param {Sheet} sheet */
 export function drawStrips(sheet) {
   if (!sheet.has("strips")) return;
   const { run, view } = sheet;
-  const isTimed = run.bench.seconds !== undefined;
-  const isStolen = run.bench.steal !== 0;
   for (const name of view.strips) {
-    if ((name === "stolen" && !isStolen) || (name === "idle" && !isTimed)) continue;
+    if ((name === "stolen" && run.bench.steal === 0) || (name === "idle" && run.bench.seconds === undefined)) continue;
     const isOpened = view.opened.includes(name);
-    const top = sheet.y;
-    if (name === "areas" && isOpened) drawAreas(sheet);
-    else if (name === "tasks" && isOpened) drawTasks(sheet);
-    else drawStrip(sheet, name);
-    const isName = name === "areas" || name === "tasks";
-    if (isName) sheet.bands.push({ kind: "open", name, text: `${isOpened ? "close" : "open"} ${name}`, ...{ left: 0, right: sheet.left - 2, top, bottom: sheet.y } });
+    const isTable = name === "areas" || name === "tasks";
+    const begins = sheet.y;
+    if (isTable && isOpened) (name === "areas" ? drawAreas : drawTasks)(sheet);
+    else {
+      const high = sheet.size + 4;
+      const top = sheet.lane(name, high, { kind: "strip", name });
+      if (isTable) drawUse(sheet, name, top, high);
+      else (name === "stolen" ? drawStolen : drawIdle)(sheet, top, high);
+    }
+    const text = `${isOpened ? "close" : "open"} ${name}`;
+    if (isTable) sheet.bands.push({ kind: "open", name, text, ...{ left: 0, right: sheet.left - 2, top: begins, bottom: sheet.y } });
     sheet.y += 4;
   }
-}
-
-/** @param {Sheet} sheet @param {string} name */
-function drawStrip(sheet, name) {
-  const high = sheet.size + 4;
-  sheet.name(name, sheet.y + high / 2);
-  ground(sheet, sheet.y, high);
-  sheet.bands.push({ kind: "strip", name, top: sheet.y, bottom: sheet.y + high });
-  if (name === "areas" || name === "tasks") drawUse(sheet, name, high);
-  if (name === "stolen") drawStolen(sheet, high);
-  if (name === "idle") drawIdle(sheet, high);
-  sheet.y += high;
 }
 
 /**
  * How many places of a table are in use, the more the higher; dark where all are.
  * @param {Sheet} sheet
  * @param {"areas" | "tasks"} name
+ * @param {number} top
  * @param {number} high
  */
-function drawUse(sheet, name, high) {
+function drawUse(sheet, name, top, high) {
   const most = MOST[name];
   let free = -1;
   for (const { left, right, used, from, to } of usedParts(sheet, name === "areas" ? 4 : 8)) {
+    if (used === 0) continue;
     const isFull = used === most;
     const tall = Math.max(2, (used / most) * (high - 1));
-    const text = `${used} of ${most}, requests ${from} to ${to}`;
-    const told = /** @type {const} */ ({ kind: "text", text: `${name}: ${text}` });
-    if (used > 0) sheet.rect([left, sheet.y + high - tall, right - left, tall], isFull ? "soft" : "used", right - left >= LEAST_TOLD ? { told } : {});
-    if (used === 0 || right - left < LEAST_NUMBERED || left < free) continue;
-    if (sheet.text(String(used), left + 3, sheet.y + high / 2, { fill: isFull ? "paper" : "ink" })) free = left + 24;
+    const told = /** @type {const} */ ({ kind: "text", text: `${name}: ${used} of ${most}, requests ${from} to ${to}` });
+    sheet.rect([left, top + high - tall, right - left, tall], isFull ? "soft" : "used", right - left >= LEAST_TOLD ? { told } : {});
+    if (right - left < LEAST_NUMBERED || left < free) continue;
+    if (sheet.text(String(used), left + 3, top + high / 2, { fill: isFull ? "paper" : "ink" })) free = left + 24;
   }
 }
 
@@ -235,10 +185,8 @@ function usedParts(sheet, bits) {
   const uses = run.columns.uses.items;
   /** @type {{ left: number, right: number, used: number, from: number, to: number }[]} */
   const parts = [];
-  for (let row = scale.rowAt(scale.from); row <= count; row++) {
-    const place = scale.placeOf(row);
-    if (place > scale.to) break;
-    const x = Math.max(sheet.left, sheet.xOf(place));
+  for (let row = scale.rowAt(scale.from); row <= count && scale.placeOf(row) <= scale.to; row++) {
+    const x = Math.max(sheet.left, sheet.xOf(scale.placeOf(row)));
     const used = (uses[row] >> bits) & 15;
     const last = parts.at(-1);
     if (last !== undefined && x - last.left < 1) [last.used, last.to] = [Math.max(last.used, used), row];
@@ -250,143 +198,85 @@ function usedParts(sheet, bits) {
   return parts;
 }
 
-/** @param {Sheet} sheet @param {number} high */
-function drawStolen(sheet, high) {
-  const { run, scale, left, right } = sheet;
+/** @param {Sheet} sheet @param {number} top @param {number} high */
+function drawStolen(sheet, top, high) {
+  const { run, scale } = sheet;
   if (!scale.isTime) return;
-  const column = (scale.to - scale.from) / (right - left);
+  const column = (scale.to - scale.from) / (sheet.right - sheet.left);
   for (const { from, to, percent } of stolenParts(run.bench.steal, scale.from, scale.to, column)) {
-    const [x, end] = [Math.max(left, sheet.xOf(from)), Math.min(right, sheet.xOf(to))];
+    const [x, end] = sheet.within(sheet.xOf(from), sheet.xOf(to));
     if (end <= x || percent === 0) continue;
     const tall = Math.max(1.5, (percent / 100) * (high - 1));
-    sheet.rect([x, sheet.y + high - tall, end - x, tall], "stolen", { told: { kind: "text", text: `${percent} % stolen` } });
+    sheet.rect([x, top + high - tall, end - x, tall], "stolen", { told: { kind: "text", text: `${percent} % stolen` } });
     const text = `${percent} %`;
-    if (end - x > textWidth(text, sheet.size) + 8) sheet.text(text, x + 3, sheet.y + high / 2);
+    if (end - x > textWidth(text, sheet.size) + 8) sheet.text(text, x + 3, top + high / 2);
   }
 }
 
-/** No job runs where core set 0 is free, or its job sleeps. @param {Sheet} sheet @param {number} high */
-function drawIdle(sheet, high) {
-  const { scale, y } = sheet;
-  const lane = scale.run.lanes.sets[0];
-  eachBlock(sheet, lane.keys.items, lane.count, scale, (entry, left, right) => {
-    if (((lane.values.items[entry] >> 4) & 3) === State.RUNS) return false;
-    sheet.rect([left, y + 3, right - left, high - 6], "idle");
+/** No job runs where core set 0 is free, or its job sleeps. @param {Sheet} sheet @param {number} top @param {number} high */
+function drawIdle(sheet, top, high) {
+  const { lanes } = sheet.run;
+  eachBlock(sheet, 0, sheet.scale, (entry, left, right) => {
+    if (lanes.block(0, entry)?.state === State.RUNS) return false;
+    sheet.rect([left, top + 3, right - left, high - 6], "idle");
     return true;
   });
 }
 
 /** A line for each VAC area, with who owns it. @param {Sheet} sheet */
 function drawAreas(sheet) {
-  const high = sheet.line;
-  for (let k = 0; k < MOST.areas; k++) {
-    const top = sheet.y + k * high;
-    sheet.name(`area ${k + 1}`, top + high / 2);
-    sheet.bands.push({ kind: "area", k, top, bottom: top + high });
-    ground(sheet, top, high);
-  }
-  for (const owner of ownersOf(sheet)) drawOwner(sheet, owner, high);
-  sheet.y += MOST.areas * high;
-}
-
-/** Who owns which area, from when to when. @param {Sheet} sheet */
-function ownersOf({ run, scale }) {
-  const { lanes } = run;
-  const last = 2 * scale.count + 1;
-  /** @type {Map<string, { id: number, area: number, from: number, to: number, set: number, entry: number }>} */
-  const owners = new Map();
-  lanes.sets.forEach((lane, set) => {
-    let entry = Math.max(0, lastUpTo(lane.keys.items, lane.count, scale.keyAt(scale.from)));
-    for (; entry < lane.count && lane.keys.items[entry] <= last; entry++) {
-      const area = lane.values.items[entry] >> 11;
-      if (area === 0) continue;
-      if (scale.placeOfKey(lane.keys.items[entry]) > scale.to) break;
-      const id = lane.ids.items[entry];
-      const gone = lanes.jobs.gone.items[id];
-      const name = `${area} ${id}`;
-      if (!owners.has(name)) owners.set(name, { id, area, from: lanes.jobs.born.items[id], to: gone > last ? 0 : gone, set, entry });
-    }
+  const { jobs } = sheet.run.lanes;
+  drawPlaces(sheet, "area", MOST.areas, (id) => jobs.area.items[id] - 1, (id, box) => {
+    const [at, number] = [jobs.at.items[id], jobs.more.items[id]];
+    sheet.block(box, `b${sheet.colours.of(at)}`, { kind: "area", id });
+    sheet.label(jobTexts(sheet, { at, number }), box, { fill: `i${sheet.colours.of(at)}` });
   });
-  return [...owners.values()].sort((a, b) => a.from - b.from);
 }
 
-/** @param {Sheet} sheet @param {ReturnType<typeof ownersOf>[0]} owner @param {number} high */
-function drawOwner(sheet, { area, from, to, set, entry }, high) {
-  const { scale } = sheet;
-  const block = scale.run.lanes.block(set, entry);
-  const [left, right] = span(sheet, from, to);
-  if (block === null || right <= left) return;
-  const top = sheet.y + (area - 1) * high + 1.5;
-  const colour = sheet.colours.of(block.at);
-  sheet.rect([left, top, right - left - (right - left > 3 ? 0.7 : 0), high - 3], `b${colour}`,
-    right - left >= LEAST_TOLD ? { told: { kind: "area", set, entry } } : {});
-  nameBlock(sheet, { ...block, state: State.RUNS }, [left, right, top, high - 3]);
+/** A line for each place of the Waitlist that is ever taken, with the task that waits there. @param {Sheet} sheet */
+function drawTasks(sheet) {
+  const { place } = sheet.run.lanes.tasks;
+  const many = 1 + place.items.subarray(1, sheet.run.lanes.tasks.lastUpTo(sheet.scale.lastKey) + 1).reduce((most, it) => Math.max(most, it), 0);
+  drawPlaces(sheet, "task", many, (id) => place.items[id], (id, box) => {
+    sheet.block(box, "used", { kind: "task", id });
+    sheet.label([sheet.taskName(id)], box);
+  });
 }
 
 /**
- * From where to where something is drawn that is there from one key to another: at least one point, and
- * what is there as the run ends, three.
+ * A line for each place of a table, and who is there from when to when: for at least one point, and for three where
+ * nobody has left as the run ends.
  * @param {Sheet} sheet
- * @param {number} from
- * @param {number} to 0 where nothing has ended it
+ * @param {"area" | "task"} kind
+ * @param {number} many
+ * @param {(id: number) => number} placeOf below zero where it has none
+ * @param {(id: number, box: number[]) => void} draw
  */
-function span(sheet, from, to) {
-  const { scale } = sheet;
-  const x = sheet.xOf(scale.placeOfKey(from));
-  const end = sheet.xOf(to === 0 ? scale.end : scale.placeOfKey(to));
-  const least = to === 0 ? LEAST_TOLD : 1;
-  const left = Math.min(Math.max(sheet.left, x), sheet.right - least);
-  return x > sheet.right || end < sheet.left ? [0, 0] : [left, Math.max(left + least, Math.min(sheet.right, end))];
-}
-
-/** A line for each place of the Waitlist, with the task that waits there. @param {Sheet} sheet */
-function drawTasks(sheet) {
-  const { run, scale, names } = sheet;
-  const { tasks } = run.lanes;
-  const high = sheet.line;
-  const places = tasks.place.items.subarray(1, tasks.lastUpTo(2 * scale.count + 1) + 1);
-  const many = 1 + places.reduce((most, it) => Math.max(most, it), 0);
-  for (let k = 0; k < many; k++) {
-    const top = sheet.y + k * high;
-    sheet.name(`task ${k + 1}`, top + high / 2);
-    sheet.bands.push({ kind: "task", k, top, bottom: top + high });
-    ground(sheet, top, high);
+function drawPlaces(sheet, kind, many, placeOf, draw) {
+  const { scale, line } = sheet;
+  const comers = sheet.run.lanes[kind === "task" ? "tasks" : "jobs"];
+  const tops = Array.from({ length: many }, (_, k) => sheet.lane(`${kind} ${k + 1}`, line, { kind, k }));
+  for (const id of comers.over(0, scale.lastKey)) {
+    const gone = comers.gone.items[id];
+    const [x, end] = [sheet.xOf(scale.placeOfKey(comers.born.items[id])), sheet.xOf(scale.endOf(gone))];
+    if (placeOf(id) < 0 || x > sheet.right || end < sheet.left) continue;
+    const least = gone === 0 || gone > scale.lastKey ? LEAST_TOLD : 1;
+    const left = Math.min(Math.max(sheet.left, x), sheet.right - least);
+    draw(id, [left, Math.max(left + least, Math.min(sheet.right, end)), tops[placeOf(id)] + 1.5, line - 3]);
   }
-  const last = 2 * scale.count + 1;
-  const early = scale.isTime ? 2 * run.rowAtTime(Math.max(0, Math.floor(scale.from) - LONGEST_WAIT), scale.count) - 1 : 0;
-  for (let id = Math.max(1, tasks.lastUpTo(early)); id < tasks.count && tasks.born.items[id] <= last; id++) {
-    const gone = tasks.gone.items[id];
-    const [left, right] = span(sheet, tasks.born.items[id], gone > last ? 0 : gone);
-    if (right <= left) continue;
-    const top = sheet.y + tasks.place.items[id] * high + 1.5;
-    sheet.rect([left, top, right - left - (right - left > 3 ? 0.7 : 0), high - 3], "used",
-      right - left >= LEAST_TOLD ? { told: { kind: "task", id } } : {});
-    const task = { at: tasks.at.items[id], bank: tasks.bank.items[id] };
-    const text = [names.task(task) ?? octal(task.at, 5)].find((it) => textWidth(it, sheet.size) <= right - left - 8);
-    if (text !== undefined) sheet.text(text, left + 4, top + high / 2 - 1.5);
-  }
-  sheet.y += many * high;
 }
 
 /** The core sets of the run before, half as high. @param {Sheet} sheet */
 export function drawBefore(sheet) {
-  const { before, high } = sheet.view;
-  if (!sheet.has("before") || before === null) return;
-  const other = new ScaleOf(before.run, before.count);
-  if (other.isTime !== sheet.scale.isTime) return;
-  [other.from, other.to] = [sheet.scale.from, sheet.scale.to];
-  sheet.name("before", sheet.y + sheet.line / 2);
-  sheet.text(outcomeOf(before.run, before.count), sheet.left, sheet.y + sheet.line / 2, { fill: "soft" });
-  sheet.y += sheet.line;
-  const half = Math.round(high / 2);
-  before.run.lanes.sets.forEach((_, k) => {
-    ground(sheet, sheet.y, half);
-    drawSet(sheet, k, { top: sheet.y + 1, high: half - 2, isNamed: false, scale: other });
-    sheet.y += half;
-  });
-  for (const row of before.run.alarms.filter((it) => it <= before.count)) {
-    const x = sheet.xOf(other.placeOf(row), other);
-    if (x >= sheet.left && x <= sheet.right) sheet.path([[x, sheet.y - 7 * half], [x, sheet.y]], { stroke: "alarm", width: 1.5 });
-  }
+  const { before: scale, y, line } = sheet;
+  if (scale === null || !sheet.has("before")) return;
+  const { run, count } = scale;
+  const half = Math.round(sheet.view.high / 2);
+  sheet.name("before", y + line / 2);
+  sheet.text(outcomeOf(run, count), sheet.left, y + line / 2, { fill: "soft" });
+  sheet.y += line;
+  const top = sheet.y;
+  run.lanes.sets.forEach((_, k) => drawSet(sheet, k, scale, [sheet.lane("", half, null) + 1, half - 2]));
+  for (const { x } of sheet.seen(run.alarms, scale)) sheet.path([[x, top], [x, sheet.y]], { stroke: "alarm", width: 1.5 });
   sheet.y += 4;
 }

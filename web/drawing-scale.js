@@ -48,6 +48,16 @@ export class Scale {
     return this.isTime || (key & 1) === 1 ? this.placeOf(row) : this.placeOf(row) - 1;
   }
 
+  /** The last key of the rows there are. */
+  get lastKey() {
+    return 2 * this.count + 1;
+  }
+
+  /** Where something ends: with the run, where nothing has ended it. @param {number} key and 0 for none */
+  endOf(key) {
+    return key === 0 || key > this.lastKey ? this.end : this.placeOfKey(key);
+  }
+
   /** The last row at a place. @param {number} place */
   rowAt(place) {
     return Math.min(this.count, this.keyAt(place) >> 1);
@@ -99,10 +109,14 @@ export class Scale {
     this.see(this.from + by, this.to + by);
   }
 
-  /** Takes over what another scale sees. @param {Scale} other */
-  like(other) {
-    if (other.isTime !== this.isTime) return;
-    if (!other.isWhole) this.see(other.from, Math.min(other.to, this.end));
+  /** The scale of another run, of which the same part is seen; null where that isn't measured alike. @param {{ run: import("./run.js").Run, count: number }} other */
+  ofOther({ run, count }) {
+    const made = new Scale(run, count);
+    // (each request stands above or below the same one of this run)
+    made.erasUpTo = (row) => this.erasUpTo(row);
+    if (!made.isTime) made.end = made.placeOf(count) + 1;
+    [made.from, made.to] = [this.from, this.to];
+    return made.isTime === this.isTime ? made : null;
   }
 
   /** The marks of an axis this wide: round numbers of seconds, or of requests. @param {number} width in points */

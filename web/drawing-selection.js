@@ -5,32 +5,32 @@
  * @typedef {import("./drawing.js").Sheet} Sheet
  * @typedef {{ x: number, y: number, name: string }} Point
  */
-import { lastUpTo } from "./lanes.js";
 import { octal, visible } from "./words.js";
 
 /** @param {Sheet} sheet */
 export function drawSelection(sheet) {
   const { selection } = sheet.view;
   if (selection === null || !sheet.has("sets")) return;
-  if (selection.kind === "job") {
+  if (selection.kind === "task") drawTask(sheet, selection.id);
+  else {
     frameJob(sheet, selection.id);
-    const { jobs } = sheet.run.lanes;
-    const row = jobs.born.items[selection.id] >> 1;
-    drawAsker(sheet, row, jobs.at.items[selection.id], jobPoint(sheet, selection.id));
-  } else drawTask(sheet, selection.id);
+    drawAsker(sheet, "jobs", selection.id, jobPoint(sheet, selection.id));
+  }
 }
 
-/** @param {Sheet} sheet @param {number} id */
+/** A task as it waits, who asked for it, and the jobs that it asked for. @param {Sheet} sheet @param {number} id */
 function drawTask(sheet, id) {
-  const { jobs, tasks } = sheet.run.lanes;
-  const { left, right, y } = taskBox(sheet, id);
-  if (right >= left) sheet.path([[left, y], [right, y]], { stroke: "ink", width: 3 });
-  drawAsker(sheet, tasks.born.items[id] >> 1, tasks.at.items[id], { x: left, y, name: taskName(sheet, id) });
-  const row = tasks.gone.items[id] >> 1;
-  for (let job = 1; row > 0 && job < jobs.count && jobs.born.items[job] >> 1 <= row; job++) {
-    if (jobs.born.items[job] >> 1 !== row || askerOf(sheet, row, jobs.at.items[job])?.id !== id) continue;
+  const { scale, run: { lanes: { jobs, tasks } } } = sheet;
+  const from = taskPoint(sheet, id);
+  const gone = tasks.gone.items[id];
+  const due = { ...from, x: clipped(sheet, sheet.xOf(scale.endOf(gone))) };
+  sheet.path([[from.x, from.y], [due.x, due.y]], { stroke: "ink", width: 3 });
+  drawAsker(sheet, "tasks", id, from);
+  for (const job of gone > 1 ? jobs.over(gone - 1, gone | 1) : []) {
+    const isBorn = jobs.born.items[job] >> 1 === gone >> 1;
+    if (!isBorn || askerOf(sheet, gone >> 1, jobs.at.items[job])?.id !== id) continue;
     frameJob(sheet, job);
-    arrow(sheet, { x: right, y, name: taskName(sheet, id) }, jobPoint(sheet, job));
+    arrow(sheet, due, jobPoint(sheet, job));
   }
 }
 
@@ -43,29 +43,27 @@ function drawTask(sheet, id) {
  * @returns {{ kind: "job" | "task", id: number } | null}
  */
 function askerOf({ run }, row, at) {
-  const { tasks, sets } = run.lanes;
+  const { tasks } = run.lanes;
   if (run.lines[row] !== "tick") {
     const runner = run.lanes.blockAt(0, Math.max(0, row - 1));
-    return run.whoAsked(row) === "the clock" && runner !== null && sets.length > 0 ? { kind: "job", id: runner.id } : null;
+    return run.whoAsked(row) === "the clock" && runner !== null ? { kind: "job", id: runner.id } : null;
   }
-  const due = [];
-  for (let id = tasks.lastUpTo(2 * row); id > 0 && due.length < 9; id--) if (tasks.gone.items[id] >> 1 === row) due.push(id);
+  const due = [...tasks.over(2 * row - 1, 2 * row)].filter((id) => tasks.gone.items[id] >> 1 === row).reverse();
   const asks = (/** @type {number} */ id) => run.bench.task.some((it) => parseInt(it.at, 8) === tasks.at.items[id]
     && it.action.some((line) => line.split(" ").includes(octal(at, 5))));
   const id = due.find(asks) ?? due[0];
   return id === undefined ? null : { kind: "task", id };
 }
 
-/** @param {Sheet} sheet @param {number} row @param {number} at @param {Point} to */
-function drawAsker(sheet, row, at, to) {
+/** @param {Sheet} sheet @param {"jobs" | "tasks"} kind @param {number} id @param {Point} to */
+function drawAsker(sheet, kind, id, to) {
+  const { born, at } = sheet.run.lanes[kind];
+  const row = born.items[id] >> 1;
   if (row === 0) return;
-  const asker = askerOf(sheet, row, at);
-  const x = sheet.xOf(sheet.scale.placeOf(row));
-  if (asker === null) {
-    const who = visible(sheet.run.whoAsked(row)).replace(/^event /, "");
-    arrow(sheet, { x, y: sheet.top, name: who }, to);
-  } else if (asker.kind === "task") arrow(sheet, { x, y: taskBox(sheet, asker.id).y, name: taskName(sheet, asker.id) }, to);
-  else arrow(sheet, { ...jobPoint(sheet, asker.id), x }, to);
+  const asker = askerOf(sheet, row, at.items[id]);
+  const from = asker === null ? { y: sheet.top, name: visible(sheet.run.whoAsked(row)).replace(/^event /, "") }
+    : asker.kind === "task" ? taskPoint(sheet, asker.id) : jobPoint(sheet, asker.id);
+  arrow(sheet, { ...from, x: sheet.xOf(sheet.scale.placeOf(row)) }, to);
 }
 
 /** An arrow between two points that are seen, with who asks for whom. @param {Sheet} sheet @param {Point} from @param {Point} to */
@@ -74,57 +72,43 @@ function arrow(sheet, from, to) {
   if (!isSeen(from) || !isSeen(to)) return;
   const side = from.x - 26 > sheet.left ? -26 : 26;
   const middle = [(from.x + to.x) / 2 + side, (from.y + to.y) / 2];
-  sheet.path([[from.x, from.y], middle, [to.x, to.y]], { stroke: "paper", width: 5, isArrow: true });
-  sheet.path([[from.x, from.y], middle, [to.x, to.y]], { stroke: "ink", width: 2, isArrow: true });
+  for (const look of [{ stroke: "paper", width: 5 }, { stroke: "ink", width: 2 }]) {
+    sheet.path([[from.x, from.y], middle, [to.x, to.y]], { ...look, isArrow: true });
+  }
   const text = from.name === to.name ? from.name : `${from.name} → ${to.name}`;
   const look = /** @type {const} */ ({ anchor: side < 0 ? "end" : "start", isBold: true, ground: "paper" });
   const x = middle[0] - side / 2 + Math.sign(side) * 6;
   for (const shift of [0, 1, -1, 2, -2]) if (sheet.text(text, x, middle[1] + shift * sheet.line, look)) return;
 }
 
-/** @param {Sheet} sheet @param {number} id */
-function taskName({ run, names }, id) {
-  const { at, bank } = run.lanes.tasks;
-  const task = { at: at.items[id], bank: bank.items[id] };
-  return names.task(task) ?? octal(task.at, 5);
+/** A place across, or the edge beyond which it is. @param {Sheet} sheet @param {number} x */
+function clipped({ left, right }, x) {
+  return Math.max(left, Math.min(right, x));
 }
 
-/** Where a task waits. @param {Sheet} sheet @param {number} id */
-function taskBox(sheet, id) {
-  const { scale, bands } = sheet;
-  const { tasks } = sheet.run.lanes;
-  const band = bands.find((it) => (it.kind === "task" && it.k === tasks.place.items[id]) || (it.kind === "strip" && it.name === "tasks"));
-  const y = band === undefined ? sheet.y : (band.top + band.bottom) / 2;
-  const gone = tasks.gone.items[id];
-  const end = gone === 0 || gone > 2 * sheet.count + 1 ? scale.to : scale.placeOfKey(gone);
-  const within = (/** @type {number} */ x) => Math.max(sheet.left, Math.min(sheet.right, x));
-  return { left: within(sheet.xOf(scale.placeOfKey(tasks.born.items[id]))), right: within(sheet.xOf(end)), y };
+/** Where a task begins to wait: at the edge, where that isn't seen. @param {Sheet} sheet @param {number} id @returns {Point} */
+function taskPoint(sheet, id) {
+  const { born, place } = sheet.run.lanes.tasks;
+  const y = sheet.middleOf((it) => (it.kind === "task" && it.k === place.items[id]) || (it.kind === "strip" && it.name === "tasks"));
+  return { x: clipped(sheet, sheet.xOf(sheet.scale.placeOfKey(born.items[id]))), y, name: sheet.taskName(id) };
 }
 
 /** Where a job begins. @param {Sheet} sheet @param {number} id @returns {Point} */
 function jobPoint(sheet, id) {
-  const { jobs, sets } = sheet.run.lanes;
-  const key = jobs.born.items[id];
-  const set = sets.findIndex((lane) => lane.ids.items[lastUpTo(lane.keys.items, lane.count, key)] === id);
-  const band = sheet.bands.find((it) => it.kind === "set" && it.k === Math.max(0, set));
-  const y = band === undefined ? sheet.y : (band.top + band.bottom) / 2;
-  return { x: sheet.xOf(sheet.scale.placeOfKey(key)), y, name: sheet.names.job(jobs.at.items[id]) ?? octal(jobs.at.items[id], 5) };
+  const { born, place, at } = sheet.run.lanes.jobs;
+  const y = sheet.middleOf((it) => it.kind === "set" && it.k === place.items[id]);
+  return { x: sheet.xOf(sheet.scale.placeOfKey(born.items[id])), y, name: sheet.jobName(at.items[id]) };
 }
 
 /** A frame around all blocks of a job. @param {Sheet} sheet @param {number} id */
 function frameJob(sheet, id) {
-  const { scale } = sheet;
-  const { jobs, sets } = sheet.run.lanes;
-  const last = 2 * sheet.count + 1;
-  sets.forEach((lane, k) => {
-    const band = sheet.bands.find((it) => it.kind === "set" && it.k === k);
-    let entry = Math.max(0, lastUpTo(lane.keys.items, lane.count, jobs.born.items[id]));
-    const gone = jobs.gone.items[id] === 0 ? last : jobs.gone.items[id];
-    for (; band !== undefined && entry < lane.count && lane.keys.items[entry] <= Math.min(last, gone); entry++) {
-      if (lane.ids.items[entry] !== id) continue;
-      const next = entry + 1 < lane.count && lane.keys.items[entry + 1] <= last ? scale.placeOfKey(lane.keys.items[entry + 1]) : scale.end;
-      const [x, end] = [Math.max(sheet.left, sheet.xOf(scale.placeOfKey(lane.keys.items[entry]))), Math.min(sheet.right, sheet.xOf(next))];
-      if (end >= x) sheet.rect([x, band.top + 1, Math.max(1, end - x), band.bottom - band.top - 2], "none", { stroke: "ink" });
+  const { scale, bands, run: { lanes: { jobs, sets } } } = sheet;
+  const gone = jobs.gone.items[id] || scale.lastKey;
+  for (const { kind, k = 0, top, bottom } of bands) {
+    for (const entry of kind === "set" ? sets[k].over(jobs.born.items[id], Math.min(scale.lastKey, gone)) : []) {
+      if (sets[k].ids.items[entry] !== id) continue;
+      const [x, end] = sheet.within(sheet.xOf(scale.placeOfKey(sets[k].keys.items[entry])), sheet.xOf(scale.endOf(sets[k].endOf(entry))));
+      if (end >= x) sheet.rect([x, top + 1, Math.max(1, end - x), bottom - top - 2], "none", { stroke: "ink" });
     }
-  });
+  }
 }

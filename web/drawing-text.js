@@ -1,6 +1,5 @@
 /**
- * How wide a text is at most, by a table of its characters, so that pictures are the same on each
- * machine, and where labels have room: none overlaps another one, or leaves the picture.
+ * How wide a text is at most, by a table of its characters, so that pictures are the same on each machine.
  */
 
 /** The widths of ASCII's characters from the blank on, in hundredths of the size: DejaVu Sans, which is a broad one. */
@@ -25,22 +24,4 @@ export function textWidth(text, size, isBold = false) {
     hundredths += WIDTHS[code - 32] ?? (code >= FIRST_BROAD ? BROAD : OTHER);
   }
   return (hundredths * size * (isBold ? BOLD : 1)) / 100;
-}
-
-/** Which parts of a picture have a label already. */
-export class Labels {
-  /** @param {number} width of the picture */
-  constructor(width) {
-    this.width = width;
-    /** @type {{ left: number, right: number, top: number, bottom: number }[]} */
-    this.taken = [];
-  }
-
-  /** Takes a place, if it is free and within the picture. @param {number} left @param {number} right @param {number} top @param {number} bottom */
-  take(left, right, top, bottom) {
-    const isFree = left >= 0 && right <= this.width && !this.taken.some((it) =>
-      left < it.right && it.left < right && top < it.bottom && it.top < bottom);
-    if (isFree) this.taken.push({ left, right, top, bottom });
-    return isFree;
-  }
 }

@@ -9,9 +9,9 @@
  * @typedef {{ kind: "job" | "task", id: number }} Selection
  * @typedef {{ width: number, from?: number, to?: number, high?: number, text?: number, strips?: string[],
  *   opened?: string[], parts?: string[], selection?: Selection | null, before?: Part | null,
- *   position?: number | null, theme?: "light" | "dark" | "forced", names?: Names, colours?: Colours,
- *   hasHandles?: boolean, isStill?: boolean, isBare?: boolean, title?: string }} View `isStill`: it doesn't change, so what is empty all
- *   the time may be thin; `isBare`: it has no text, and all of its width is the run's
+ *   theme?: "light" | "dark" | "forced", names?: Names, colours?: Colours, isStill?: boolean, isBare?: boolean,
+ *   title?: string }} View `isStill`: it doesn't change, so what is empty all the time may be thin; `isBare`: it has no text, and
+ *   all of its width is the run's
  * @typedef {{ kind: "rect", x: number, y: number, width: number, height: number, fill: string, stroke?: string,
  *   isDashed?: boolean, told?: Told }} Rect
  * @typedef {{ kind: "text", x: number, y: number, text: string, size: number, fill: string, isBold?: boolean,
@@ -19,7 +19,8 @@
  * @typedef {{ kind: "path", points: number[][], fill?: string, stroke?: string, width?: number, isDashed?: boolean,
  *   isArrow?: boolean, told?: Told }} Path
  * @typedef {Rect | Text | Path} Mark
- * @typedef {{ kind: "job" | "area", set: number, entry: number } | { kind: "task", id: number }
+ * @typedef {{ anchor?: "start" | "middle" | "end", fill?: string, isBold?: boolean, size?: number, ground?: string }} Look
+ * @typedef {{ kind: "job", set: number, entry: number } | { kind: "area" | "task", id: number }
  *   | { kind: "text", text: string }} Told what a mark is about, which an SVG has as its title
  * @typedef {{ kind: string, top: number, bottom: number, k?: number, name?: string, left?: number, right?: number,
  *   row?: number, edge?: Edge, text?: string }} Band
@@ -32,20 +33,28 @@ import { Colours } from "./colours.js";
 import { drawAxis, drawEvents, drawLegend, drawLines, drawTitle } from "./drawing-around.js";
 import { drawBudget, drawWork } from "./drawing-bands.js";
 import { drawBefore, drawSets, drawStrips } from "./drawing-lanes.js";
+import { LEAST_TOLD } from "./drawing-marks.js";
+import { noteAlarm } from "./drawing-notes.js";
 import { Scale } from "./drawing-scale.js";
 import { drawSelection } from "./drawing-selection.js";
-import { Labels, textWidth } from "./drawing-text.js";
-import { alarmCode, requestsOver, tellJob, tellStrip, tellTask, whenOf } from "./drawing-words.js";
-import { workOf } from "./drawing-work.js";
-import { seconds } from "./words.js";
+import { textWidth } from "./drawing-text.js";
+import { octal } from "./words.js";
 
 /** A core set's height, the least size of text, and the room on the right. */
 const HIGH = 28;
 const LEAST_TEXT = 12;
 const MARGIN = 10;
 
-/** What a picture has. The page's has `legend`, too, where there is room, and an SVG by itself has `title`. */
-export const PARTS = ["events", "work", "sets", "strips", "before", "axis", "budget"];
+/** How wide a block is at least that doesn't touch what follows, and how far it stays away. */
+const LEAST_APART = 3;
+const APART = 0.7;
+
+/** How much of a block's width its text leaves free, and at least. */
+const BESIDE = 8;
+const LEAST_BESIDE = 2;
+
+/** What a picture has. The page's has `notes`, too, and `legend` where there is room, and an SVG by itself has `title`. */
+export const PARTS = ["events", "alarms", "work", "sets", "strips", "before", "axis", "budget"];
 const STRIPS = ["areas", "tasks", "stolen", "idle"];
 
 /** What is drawn on: marks, and what lies where. */
@@ -62,24 +71,23 @@ export class Sheet {
     this.deadlines = new Map(run.bench.job.flatMap((it) => (it.deadline === undefined ? [] : [[parseInt(it.at, 8), it.deadline]])));
     this.scale = new Scale(run, count);
     this.scale.see(view.from ?? 0, view.to ?? this.scale.end);
+    this.before = this.view.before === null ? null : this.scale.ofOther(this.view.before);
     this.size = Math.max(LEAST_TEXT, view.text ?? LEAST_TEXT);
     this.width = view.width;
     this.left = view.isBare ? 0 : Math.ceil(textWidth("waiting", this.size)) + 14;
     this.right = Math.max(this.left + 20, this.width - (view.isBare ? 0 : MARGIN));
     this.y = 0;
     /** @type {Mark[]} */
-    this.under = [];
-    /** @type {Mark[]} */
     this.marks = [];
     /** @type {Band[]} */
     this.bands = [];
-    this.labels = new Labels(this.width);
+    /** Where texts are: left, right, top and bottom. @type {number[][]} */
+    this.taken = [];
     /** Where the tops of the lines are that go down through all lanes. */
     this.top = 0;
     /** Where the lines of those alarms begin that are named. @type {Map<number, number>} */
     this.tops = new Map();
     this.bottom = /** @type {number | null} */ (null);
-    this.budget = /** @type {any} */ (null);
   }
 
   /** How high a line of text is. */
@@ -92,15 +100,79 @@ export class Sheet {
     return this.view.parts.includes(part);
   }
 
-  /** Where a place is across. @param {number} place @param {Scale} [scale] */
-  xOf(place, scale = this.scale) {
-    return rounded(this.left + scale.partOf(place) * (this.right - this.left));
+  /** Where a place is across. @param {number} place */
+  xOf(place) {
+    return rounded(this.left + this.scale.partOf(place) * (this.right - this.left));
+  }
+
+  /** Those of these rows that are seen, and where. @param {number[]} rows @param {Scale} [scale] of the run before */
+  seen(rows, scale = this.scale) {
+    const { from, to, count } = scale;
+    return rows.map((row) => ({ row, place: scale.placeOf(row) })).filter(({ row, place }) => row <= count && place >= from && place <= to)
+      .map(({ row, place }) => ({ row, x: this.xOf(place) }));
   }
 
   /** The place at a point. @param {number} x */
   placeAt(x) {
     const { from, to } = this.scale;
     return from + ((x - this.left) / (this.right - this.left)) * (to - from);
+  }
+
+  /** From where to where something is seen. @param {number} from @param {number} to points across */
+  within(from, to) {
+    return [Math.max(this.left, from), Math.min(this.right, to)];
+  }
+
+  /**
+   * Begins a lane: its name on the left, and what lies there. Returns where its top is.
+   * @param {string} name
+   * @param {number} high
+   * @param {{ kind: string, k?: number, name?: string } | null} band
+   */
+  lane(name, high, band) {
+    const top = this.y;
+    this.y += high;
+    if (name !== "") this.name(name, top + high / 2);
+    if (band !== null) this.bands.push({ ...band, top, bottom: this.y });
+    return top;
+  }
+
+  /** Where the middle of a lane is; of none, below all. @param {(band: Band) => boolean} is */
+  middleOf(is) {
+    const { top, bottom } = this.bands.find(is) ?? { top: this.y, bottom: this.y };
+    return (top + bottom) / 2;
+  }
+
+  /** Who is there from one point across to another. Returns where the block ends. @param {number[]} box left, right, top and height @param {string} fill @param {Told} [told] */
+  block([left, right, top, high], fill, told) {
+    const end = right - (right - left > LEAST_APART ? APART : 0);
+    this.rect([left, top, end - left, high], fill, told !== undefined && right - left >= LEAST_TOLD ? { told } : {});
+    return end;
+  }
+
+  /** Writes on a block: of these texts the first one that fits, in the middle where it just does. @param {string[]} texts @param {number[]} box as of the block @param {Look} [look] */
+  label(texts, [left, right, top, high], look) {
+    if (high < this.size + 2) return;
+    const [text, short] = [this.fitting(texts, right - left - BESIDE), this.fitting(texts, right - left - LEAST_BESIDE)];
+    if (text !== undefined) this.text(text, left + BESIDE / 2, top + high / 2, look);
+    else if (short !== undefined) this.text(short, (left + right) / 2, top + high / 2, { ...look, anchor: "middle" });
+  }
+
+  /** The first of these texts that has room. @param {string[]} texts @param {number} room */
+  fitting(texts, room) {
+    return texts.find((it) => textWidth(it, this.size) <= room);
+  }
+
+  /** What a job is called that began at this address. @param {number} at */
+  jobName(at) {
+    return this.names.job(at) ?? octal(at, 5);
+  }
+
+  /** What a task is called. @param {number} id */
+  taskName(id) {
+    const { at, bank } = this.run.lanes.tasks;
+    const task = { at: at.items[id], bank: bank.items[id] };
+    return this.names.task(task) ?? octal(task.at, 5);
   }
 
   /** @param {number[]} box x, y, width and height @param {string} fill @param {Partial<Rect>} [more] */
@@ -115,17 +187,20 @@ export class Sheet {
   }
 
   /**
-   * Writes a text where its middle is so far down, if it meets no other one. Returns whether it does.
+   * Writes a text where its middle is so far down, if it meets no other one and doesn't leave the picture. Returns whether it does.
    * @param {string} text
    * @param {number} x
    * @param {number} y
-   * @param {{ anchor?: "start" | "middle" | "end", fill?: string, isBold?: boolean, size?: number, ground?: string }} look
+   * @param {Look} look
    */
   text(text, x, y, { anchor = "start", fill = "ink", isBold = false, size = this.size, ground } = {}) {
     if (this.view.isBare) return false;
     const width = textWidth(text, size, isBold);
     const left = anchor === "start" ? x : anchor === "end" ? x - width : x - width / 2;
-    if (!this.labels.take(left - 1, left + width + 1, y - 0.55 * size, y + 0.55 * size)) return false;
+    const box = [left - 1, left + width + 1, y - 0.55 * size, y + 0.55 * size];
+    const meets = (/** @type {number[]} */ it) => box[0] < it[1] && it[0] < box[1] && box[2] < it[3] && it[2] < box[3];
+    if (box[0] < 0 || box[1] > this.width || this.taken.some(meets)) return false;
+    this.taken.push(box);
     if (ground !== undefined) this.rect([left - 2, y - 0.6 * size, width + 4, 1.2 * size], ground);
     const more = { ...(isBold ? { isBold } : {}), ...(anchor === "start" ? {} : { anchor }) };
     this.marks.push({ kind: "text", x: rounded(x), y: rounded(y + 0.36 * size), text, size, fill, ...more });
@@ -139,17 +214,16 @@ export class Sheet {
 
   /** @returns {Picture} */
   get picture() {
-    const { run, count, width, view, scale, left, right, names, colours, bands, budget } = this;
+    const { run, count, width, view, scale, left, right, names, bands } = this;
     return {
-      ...{ run, count, width, height: Math.ceil(this.y), theme: view.theme ?? "light", scale, names, colours },
-      ...{ marks: [...this.under, ...this.marks], bands, budget },
+      ...{ run, count, width, height: Math.ceil(this.y), theme: view.theme ?? "light", scale, names, marks: this.marks, bands },
       plot: { left, right, top: this.top, bottom: this.bottom ?? this.y },
     };
   }
 }
 
 /** @typedef {{ run: Run, count: number, width: number, height: number, theme: "light" | "dark" | "forced",
- *   scale: Scale, names: Names, colours: Colours, marks: Mark[], bands: Band[], budget: any,
+ *   scale: Scale, names: Names, marks: Mark[], bands: Band[],
  *   plot: { left: number, right: number, top: number, bottom: number } }} Picture */
 
 /** @param {number} number */
@@ -167,92 +241,10 @@ export function pictureOf(run, count, view) {
   drawStrips(sheet);
   drawBefore(sheet);
   drawLines(sheet);
+  noteAlarm(sheet);
   drawSelection(sheet);
   drawAxis(sheet);
   drawBudget(sheet);
   drawLegend(sheet);
   return sheet.picture;
-}
-
-/** Where a row is across: beyond the plot, where it isn't seen. @param {Picture} picture @param {number} row */
-export function xOfRow({ scale, plot }, row) {
-  return plot.left + scale.partOf(scale.placeOf(row)) * (plot.right - plot.left);
-}
-
-/** @param {Picture} picture @param {number} x */
-export function placeAtX({ scale, plot }, x) {
-  const part = Math.max(0, Math.min(1, (x - plot.left) / (plot.right - plot.left)));
-  return scale.from + part * (scale.to - scale.from);
-}
-
-/**
- * What lies at a point, and what is said of it; nothing beside the bands.
- * @param {Picture} picture
- * @param {number} x
- * @param {number} y
- * @returns {Hit | null}
- */
-export function hitAt(picture, x, y) {
-  const { plot, scale, bands } = picture;
-  const isIn = (/** @type {Band} */ it) => y >= it.top && y < it.bottom
-    && x >= (it.left ?? plot.left) && x <= (it.right ?? plot.right);
-  const band = bands.findLast(isIn);
-  if (band === undefined) return null;
-  const place = placeAtX(picture, x);
-  const key = scale.keyAt(place);
-  const row = Math.min(picture.count, key >> 1);
-  const when = scale.isTime ? seconds(Math.floor(place)) : `request ${row}`;
-  switch (band.kind) {
-    case "set": case "area": return hitJob(picture, band, key, when);
-    case "task": return hitTask(picture, band, key, when);
-    case "work": return { kind: "work", row, text: `${when}: jobs still need ${workText(picture, row)} of computing` };
-    case "alarm": return { kind: "alarm", row: band.row, text: `alarm ${alarmCode(picture.run, band.row ?? 0)}\n${whenOf(picture.run, band.row ?? 0)}` };
-    case "strip": return { kind: "strip", name: band.name, row, text: `${when}: ${tellStrip(picture.run, /** @type {any} */ (band.name), row)}` };
-    default: return { kind: band.kind, name: band.name, row: band.row, edge: band.edge, text: band.text ?? "" };
-  }
-}
-
-/** @param {Picture} picture @param {number} row */
-function workText({ run, count }, row) {
-  return seconds((workOf(run, count)?.waiting[row] ?? 0) / 100);
-}
-
-/** @param {Picture} picture @param {Band} band @param {number} key @param {string} when @returns {Hit} */
-function hitJob({ run, names }, { kind, k = 0 }, key, when) {
-  const row = key >> 1;
-  const blocks = run.lanes.sets.map((_, set) => run.lanes.blockAtKey(set, key));
-  const set = kind === "set" ? k : blocks.findIndex((it) => it?.area === k + 1);
-  const block = blocks[set] ?? null;
-  const where = kind === "set" ? `core set ${k}` : `VAC area ${k + 1}`;
-  if (block === null) return { kind: "lane", row, text: `${when}, ${where}: free` };
-  return { kind: "job", id: block.id, row, text: [`${when}, ${where}`, ...tellJob(run, block.id, names, block)].join("\n") };
-}
-
-/** @param {Picture} picture @param {Band} band @param {number} key @param {string} when @returns {Hit} */
-function hitTask({ run, names }, { k = 0 }, key, when) {
-  const { tasks } = run.lanes;
-  // (a task waits at most 16250 ticks)
-  for (let id = tasks.lastUpTo(key); id > 0 && run.ticksAt(key >> 1) - run.ticksAt(tasks.born.items[id] >> 1) <= 16_300; id--) {
-    const gone = tasks.gone.items[id];
-    if (tasks.place.items[id] === k && (gone === 0 || gone > key)) {
-      return { kind: "task", id, row: key >> 1, text: [`${when}, Waitlist`, ...tellTask(run, id, names)].join("\n") };
-    }
-  }
-  return { kind: "lane", row: key >> 1, text: `${when}, Waitlist: nothing waits here` };
-}
-
-/** What a mark is about, in lines; nothing where it needs no words. @param {Picture} picture @param {Told | undefined} told @returns {string[]} */
-export function tellMark({ run, names }, told) {
-  if (told === undefined) return [];
-  if (told.kind === "text") return [told.text];
-  const { jobs, tasks } = run.lanes;
-  if (told.kind === "task") {
-    const span = requestsOver(run, tasks.born.items[told.id], tasks.gone.items[told.id]);
-    return [`Waitlist, ${span}`, ...tellTask(run, told.id, names)];
-  }
-  const block = run.lanes.block(told.set, told.entry);
-  if (block === null) return [];
-  if (told.kind === "job") return [`core set ${told.set}, ${requestsOver(run, block.from, block.to)}`, ...tellJob(run, block.id, names, block)];
-  const span = requestsOver(run, jobs.born.items[block.id], jobs.gone.items[block.id]);
-  return [`VAC area ${block.area}, ${span}`, ...tellJob(run, block.id, names)];
 }

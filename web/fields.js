@@ -3,7 +3,7 @@
  * a few is right, its options; an answer is a text, and where it is a number or addresses, spelled in any way.
  *
  * @typedef {import("./run.js").Run} Run
- * @typedef {{ label: string, options?: string[], answer: (run: Run) => { value: string, row?: number } }} Field
+ * @typedef {{ label: string, options?: string[], size?: number, answer: (run: Run) => { value: string, row?: number } }} Field
  */
 import { Machine } from "../libagc/js/machine.js";
 import { readBench, requestsOf } from "./bench.js";
@@ -26,14 +26,15 @@ const changed = (run, change) => whole(change(run.source.document));
 /** @param {Run} run */
 function first(run) {
   const [row] = run.alarms;
-  return row === undefined ? { row: run.count, code: "none", time: "none", request: "none" }
-    : { row, code: octal(run.columns.numbers.items[row], 4), time: (run.ticksAt(row) / 100).toFixed(2), request: String(row) };
+  return row === undefined ? { row: run.count, code: "none", ticks: "none", time: "none", request: "none" }
+    : { row, code: octal(run.columns.numbers.items[row], 4), ticks: String(run.ticksAt(row)), time: (run.ticksAt(row) / 100).toFixed(2), request: String(row) };
 }
 
 /** @param {(found: ReturnType<typeof first>) => string} part @param {(text: string) => string} [change] */
 const ofFirst = (part, change) => (/** @type {Run} */ run) => {
   const found = first(change === undefined ? run : changed(run, change));
-  return { value: part(found), row: first(run).row };
+  // (the rows of a changed run aren't shown)
+  return { value: part(found), row: change === undefined ? found.row : undefined };
 };
 
 /** A row with its tables. @param {Run} run @param {number} row */
@@ -82,15 +83,23 @@ function shortest({ bench }) {
   return { count: "none", code: "none" };
 }
 
-/** The greatest percentage that may be stolen without an alarm. @param {Run} run @param {number} seconds */
+/** Whether an alarm comes. @param {import("./bench.js").Bench} bench */
+function isRaised(bench) {
+  const steps = firstAlarm(bench);
+  let step = steps.next();
+  while (!step.done) step = steps.next();
+  return step.value !== null;
+}
+
+/** The greatest percentage that may be stolen without an alarm, found by halving. @param {Run} run @param {number} seconds */
 function mostStolen({ bench }, seconds) {
-  for (let steal = 0; steal <= 100; steal++) {
-    const steps = firstAlarm({ ...bench, steal, seconds });
-    let step = steps.next();
-    while (!step.done) step = steps.next();
-    if (step.value !== null) return { value: String(steal - 1) };
+  let [most, least] = [0, 100];
+  while (least - most > 1) {
+    const steal = Math.floor((most + least) / 2);
+    if (isRaised({ ...bench, steal, seconds })) least = steal;
+    else most = steal;
   }
-  return { value: "100" };
+  return { value: String(most) };
 }
 
 /** @param {Run} run @param {(running: number, before: number) => boolean} holds */
@@ -114,15 +123,15 @@ export const EXERCISES = {
   "exercise-2": { hint: "A job that sleeps keeps its core set. Go through the script and note who sleeps.", fields: [
     { label: "How many core sets do sleepers hold?", answer: (run) => ({ value: String(shown(run, run.alarms[0]).scene.sets.filter((it) => it?.asleep).length), row: run.alarms[0] }) },
     { label: "Since which request does the first job hold its set?", answer: (run) => ({ value: String(Math.min(...shown(run, run.alarms[0]).jobsSince.map((it) => it >> 1))), row: run.alarms[0] }) }] },
-  "exercise-3": { hint: "Which table does findvac look at first? The slide on alarms says it.",
+  "exercise-3": { hint: "findvac looks for a VAC area first, and then for a core set.",
     fields: [alarm("Which alarm now?"), alarm("And with a free area?", (/** @type {string} */ text) => text.replace("findvac", "novac"))] },
   "exercise-4": { hint: "Each pass leaves one job more. How many core sets are missing in the last pass?",
     fields: [{ label: "How many more ends?", answer: (run) => least(run, "end") }] },
   "exercise-5": { hint: "A place is free again when the first task fires: which has the shortest delay?",
     fields: [request("Which request doesn't fit?"), { label: "How many ticks before it, at least?", answer: (run) => least(run, "tick") }] },
   "exercise-6": { hint: "Only what a [[phase]] table names begins again, and only if its group is in that phase.", fields: [
-    { label: "Which jobs are there after the alarm? Addresses", answer: (run) => ({ value: again(run, "sets").join(", "), row: run.alarms[0] }) },
-    { label: "Which tasks?", answer: (run) => ({ value: again(run, "tasks").join(", "), row: run.alarms[0] }) },
+    { label: "Which jobs are there after the alarm? Addresses", size: 14, answer: (run) => ({ value: again(run, "sets").join(", "), row: run.alarms[0] }) },
+    { label: "Which tasks?", size: 14, answer: (run) => ({ value: again(run, "tasks").join(", "), row: run.alarms[0] }) },
     { label: "Without phase 3 2: which job is lost?", answer: (run) => lostWithout(run, "phase 3 2", "sets") },
     { label: "Without phase 1 1: which job?", answer: (run) => lostWithout(run, "phase 1 1", "sets") },
     { label: "And which task?", answer: (run) => lostWithout(run, "phase 1 1", "tasks") }] },
@@ -131,17 +140,18 @@ export const EXERCISES = {
     { label: "How many requests after it was established?", answer: (run) => ({ value: String(Number(rowWhere(run, (now) => now === 2).value) - 3), row: 3 }) },
     { label: "After which request does job 1 run again?", answer: (run) => rowWhere(run, (now, before) => now === 1 && before !== 1 && before !== 0) }] },
   "exercise-8": { hint: "Three sleepers leave four core sets of seven, or five of eight; and there are five areas.", fields: [
-    alarm("Seven sets: which alarm?"), { label: "when, in seconds?", answer: ofFirst((it) => it.time) }, request("in which request?"),
-    alarm("Eight sets: which alarm?", eight), { label: "when?", answer: ofFirst((it) => it.time, eight) }, { label: "in which request?", answer: ofFirst((it) => it.request, eight) }] },
+    alarm("Seven sets: which alarm?"), { label: "Seven sets: at which tick?", answer: ofFirst((it) => it.ticks) }, request("Seven sets: in which request?"),
+    alarm("Eight sets: which alarm?", eight), { label: "Eight sets: at which tick?", answer: ofFirst((it) => it.ticks, eight) },
+    { label: "Eight sets: in which request?", answer: ofFirst((it) => it.request, eight) }] },
   "exercise-9": { hint: "How many areas do both threads hold together if neither has ended a job yet?", fields: [
-    alarm("In the order shown: which alarm?"), { label: "In another order?", options: CODES, answer: (run) => ({ value: shortest(run).code }) },
+    alarm("All of worker 1, then all of worker 2: which alarm?"), { label: "In another order?", options: CODES, answer: (run) => ({ value: shortest(run).code }) },
     { label: "After how many requests, at least?", answer: (run) => ({ value: shortest(run).count }) }] },
   "exercise-10": { hint: "The job needs 80 % of each second. What is left over each second with 21 %, and how much fills five areas?", fields: [
     { label: "Two minutes: the greatest percentage without an alarm?", answer: (run) => mostStolen(run, 120) },
     { label: "Ten minutes?", answer: (run) => mostStolen(run, 600) }] },
   "exercise-11": { hint: "Turn over every bit of the second word of a line: 0 becomes 7, 1 becomes 6. Is it the first?", fields: [
     { label: "Which group's words are damaged?", answer: ({ bench }) => ({ value: String(1 + [0, 1, 2, 3, 4, 5].findIndex((k) => parseInt(bench.power?.[2 * k] ?? "", 8) + parseInt(bench.power?.[2 * k + 1] ?? "", 8) !== 0o77777)) }) },
-    { label: "Mended: which jobs begin again? Addresses", answer: (run) => ({ value: again(changed(run, mended), "sets").join(", ") }) },
+    { label: "Mended: which jobs begin again? Addresses", size: 14, answer: (run) => ({ value: again(changed(run, mended), "sets").join(", ") }) },
     { label: "Which task?", answer: (run) => ({ value: again(changed(run, mended), "tasks").join(", ") }) }] },
   "exercise-12": { hint: "Of each two seconds 1.6 + 2 × 0.3 are asked for. Where do the display's jobs wait, and who begins again?", fields: [
     { label: "How many alarms?", answer: (run) => ({ value: String(run.alarms.length), row: run.alarms[0] }) },
@@ -149,10 +159,10 @@ export const EXERCISES = {
     { label: "With a phase for the display: how many?", answer: (run) => ({ value: String(changed(run, saved).alarms.length) }) }] },
 };
 
-/** What a class may type for the same: without zeros at the ends of a number, in any order of addresses. @param {string} text */
+/** What a class may type for the same: without zeros at the ends of a number or before an address, in any order of addresses. @param {string} text */
 export function plainly(text) {
-  const addresses = text.match(/[0-7]{5}/g);
-  if (addresses !== null) return addresses.sort().join(" ");
+  const addresses = text.match(/(?<![.,0-9])[0-7]{4,5}(?![0-9])/g);
+  if (addresses !== null) return addresses.map((it) => it.padStart(5, "0")).sort().join(" ");
   const number = /^[0-9]+([.,][0-9]+)?( ?(s|%|cs))?$/.test(text.trim()) ? parseFloat(text.replace(",", ".")) : NaN;
   return Number.isNaN(number) ? text.trim().toLowerCase() : String(number);
 }

@@ -69,6 +69,7 @@ export function head(now, before) {
     // (nothing is read aloud while time passes)
     for (const it of document.querySelectorAll("[aria-live]")) attribute(it, "aria-live", now.clock.isRunning ? "off" : "polite");
   }
+  assign(by("projector"), { hidden: !now.isProjected });
   for (const [name, is] of Object.entries({ running: now.clock.isRunning, embed: now.isEmbedded, projector: now.isProjected })) {
     document.body.classList.toggle(name, is);
   }

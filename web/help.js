@@ -7,7 +7,7 @@ const KEYS = [
   ["a A", "the next alarm, the alarm before"], ["c C", "the next change, the change before"],
   ["g", "go to a request or a time"], ["i /", "type a request"],
   ["space", "run the clock, or pause"], [". n", "a centisecond; to the next event"],
-  ["u r", "undo, redo"], ["b o e", "new, open, examples"], ["d p s", "edit, plan, save"],
+  ["u r", "undo, redo"], ["b o e", "new, open, examples"], ["d s", "edit, save"],
   ["+ -", "closer, wider"], ["[ ]", "move along the chart"], ["f x", "all of the chart; to an alarm"],
   ["P", "larger, for a projector: chart and story alone"], ["?", "this help"],
 ];
@@ -33,10 +33,10 @@ export function help() {
   const keys = listOf(KEYS, (it) => it.split(" ").flatMap((key) => [make("kbd", {}, key), " "]));
   const requests = REQUESTS.map((it) => [formOf(it), MEANINGS.get(it) ?? ""]);
   return [
-    make("p", {}, "This page runs the proved job tables of the Apollo Guidance Computer: the "
-      + "Executive's jobs, the Waitlist's tasks and the phases of the restart. Type a request, or "
-      + "open an example, and step through what happens."),
-    make("p", { id: "read-on" }, ...withCode("To read on: docs/LANDING.md tells how a computer runs out of room, by examples, and "
+    make("p", {}, "This page runs the job tables of the Apollo Guidance Computer: the "
+      + "Executive's jobs, the Waitlist's tasks and the phases of the restart, by a program that is proved to keep its rules. Type a "
+      + "request, or open an example, and step through what happens."),
+    make("p", { id: "read-on" }, ...withCode("To read on, in the folder that the page came with: docs/LANDING.md tells how a computer runs out of room, by examples, and "
       + "docs/teaching/README.md has a lesson of 45 minutes with this page.")),
     make("p", {}, "Each request is a row. If you type a request at an earlier row, the run goes on "
       + "from there, and the rows that came after it are kept as a branch. A box with a marked "

@@ -1,7 +1,7 @@
 /** The table of jobs: what each needs and how often, how long it took, and who missed a deadline; a click goes there. */
 import { short } from "./because.js";
 import { assign, button, by, fill, make } from "./dom.js";
-import { budgetOf } from "./drawing-work.js";
+import { budgetOf } from "./work.js";
 import { jobsOf } from "./jobs.js";
 import { act, coloursOf, differ, isHidden, namesOf } from "./state.js";
 import { counted, octal, seconds } from "./words.js";
@@ -31,6 +31,25 @@ function lineOf(row, name) {
     part === null ? "–" : percent(part), percent(share), ...[least, mean, most].map((it) => (ended === 0 ? "–" : took(it))), late].map((it) => make("td", {}, it)));
 }
 
+/** What the table's lines and its head say. @param {State} now */
+function tableOf({ run, count }) {
+  const rows = run.bench.seconds === undefined ? [] : jobsOf(run, count);
+  const names = namesOf(run);
+  const parts = rows.map((row) => ({ row, name: names.job(row.at) ?? octal(row.at, 5), part: utilization(row) ?? 0 }));
+  const stolen = (budgetOf(run, count, { from: 0, to: run.ticksAt(count) })?.stolen ?? 0) / 100;
+  return { parts, stolen, all: parts.reduce((sum, it) => sum + it.part, stolen) };
+}
+
+/** The table's lines. @param {State} now */
+export function linesOf(now) {
+  const { parts, stolen, all } = tableOf(now);
+  const colours = coloursOf(now.run);
+  return [
+    ...parts.map(({ row, name }) => lineOf(row, [make("span", { class: `swatch j${1 + colours.of(row.at)}` }), name])),
+    make("tr", {}, make("td", { colSpan: 5 }, stolen > 0 ? `and stolen ${percent(stolen)}` : "all"), make("td", {}, percent(all)), make("td", { colSpan: 5 })),
+  ];
+}
+
 /** @param {State} now @param {State} before */
 export function jobs(now, before) {
   const { run, count } = now;
@@ -43,17 +62,12 @@ export function jobs(now, before) {
     if (run !== before.run) fill("jobs-sum", ["Jobs …"]);
     return;
   }
-  const rows = isHidden(now) || run.bench.seconds === undefined ? [] : jobsOf(run, count);
-  assign(box, { hidden: rows.length === 0 });
-  const [names, colours] = [namesOf(run), coloursOf(run)];
-  const parts = rows.map((row) => ({ row, name: names.job(row.at) ?? octal(row.at, 5), part: utilization(row) ?? 0 }));
-  const stolen = (budgetOf(run, count, { from: 0, to: run.ticksAt(count) })?.stolen ?? 0) / 100;
-  const all = parts.reduce((sum, it) => sum + it.part, stolen);
-  const missed = rows.reduce((sum, it) => sum + it.missed, 0);
+  const { parts, stolen, all } = tableOf(now);
+  assign(box, { hidden: parts.length === 0 || isHidden(now) });
+  if (box.hidden) return;
+  const missed = parts.reduce((sum, it) => sum + it.row.missed, 0);
   const told = [...parts.filter((it) => it.part > 0).map(({ name, part }) => `${name} ${percent(part)}`), ...(stolen > 0 ? [`stolen ${percent(stolen)}`] : [])];
-  fill("jobs-sum", [`Jobs: ${told.join(" + ")}${told.length > 1 ? ` = ${percent(all)}` : ""}`, ...(missed > 0 ? ["; ", make("span", { class: "late" }, `${counted(missed, "deadline")} missed`)] : [])]);
-  fill("jobs", [
-    ...parts.map(({ row, name }) => lineOf(row, [make("span", { class: `swatch j${1 + colours.of(row.at)}` }), name])),
-    make("tr", {}, make("td", { colSpan: 5 }, stolen > 0 ? `and stolen ${percent(stolen)}` : "all"), make("td", {}, percent(all)), make("td", { colSpan: 5 })),
-  ]);
+  fill("jobs-sum", [`Jobs, each by its period: ${told.join(" + ")}${told.length > 1 ? ` = ${percent(all)}` : ""}`,
+    ...(missed > 0 ? ["; ", make("span", { class: "late" }, `${counted(missed, "deadline")} missed`)] : [])]);
+  fill("jobs", linesOf(now));
 }

@@ -7,8 +7,7 @@
  *   began: number, ended: number, lost: number, alive: number, least: number, mean: number, most: number, share: number,
  *   missed: number, firstMissed: number | null, missedRow: number }} JobRow
  */
-import { clockedOf } from "./drawing-work.js";
-import { lastUpTo } from "./lanes.js";
+import { State, lastUpTo } from "./lanes.js";
 
 /** A line that lists a task once more, from the action of the task itself. */
 export const AGAIN = /^list ([0-9]+) ([0-7]{5}) ([0-7]{5})$/;
@@ -36,12 +35,12 @@ export function periodOf({ task, event }, at) {
  * @returns {JobRow[]}
  */
 export function jobsOf(run, count) {
-  const clocked = clockedOf(run, count);
   const isTimed = run.bench.seconds !== undefined;
-  const momentOf = (/** @type {number} */ row) => (isTimed ? clocked.moments[row] : 100 * run.ticksAt(row));
-  const isOver = isTimed && clocked.time >= 100 * (run.bench.seconds ?? 0) && count === run.count;
-  const now = isOver ? 100 * clocked.time : momentOf(count);
-  const { jobs, eras, sets } = run.lanes;
+  const momentOf = (/** @type {number} */ row) => (isTimed ? run.momentAt(row) : 100 * run.ticksAt(row));
+  const time = run.columns.times.items[count];
+  const isOver = isTimed && time >= 100 * (run.bench.seconds ?? 0) && count === run.count;
+  const now = isOver ? 100 * time : momentOf(count);
+  const { jobs, eras } = run.lanes;
   /** @type {Map<number, JobRow & { responses: number[] }>} */
   const rows = new Map();
   for (let id = 1; id < jobs.count && jobs.born.items[id] >> 1 <= count; id++) {
@@ -61,8 +60,37 @@ export function jobsOf(run, count) {
     if (row.firstMissed !== null && row.firstMissed <= due) continue;
     [row.firstMissed, row.missedRow] = [due, lateRow(momentOf, born >> 1, count, due)];
   }
-  const left = isOver && sets[0] ? clocked.left : 0;
-  return [...rows.values()].map((row) => summedUp(row, (clocked.computed.get(row.at) ?? 0) + (clocked.cost > 0 && clocked.runner?.at === row.at ? left : 0), now));
+  const computed = computedOf(run, count, isOver);
+  return [...rows.values()].map((row) => summedUp(row, computed.get(row.at) ?? 0, now));
+}
+
+/**
+ * What the jobs of each address have computed up to a row, and in what is left of a run that is over.
+ * @param {Run} run
+ * @param {number} count
+ * @param {boolean} isOver
+ */
+function computedOf(run, count, isOver) {
+  /** @type {Map<number, number>} */
+  const computed = new Map();
+  const [{ left }, [lane]] = [run.columns, run.lanes.sets];
+  for (let entry = 0; entry < lane.count && lane.keys.items[entry] <= 2 * count + 1; entry++) {
+    const block = run.lanes.block(0, entry);
+    if (block?.state !== State.RUNS) continue;
+    const isLast = block.to === 0 || block.to > 2 * count + 1;
+    const last = isLast ? count : block.to >> 1;
+    let sum = isLast && isOver && run.costs.has(block.now) ? left.items[count] : 0;
+    for (let row = (block.from >> 1) + 1; row <= last; row++) sum += usedBefore(run, row, run.costs.has(block.now));
+    computed.set(block.at, sum + (computed.get(block.at) ?? 0));
+  }
+  return computed;
+}
+
+/** What the running job computed before a row: the rest of a centisecond, where it has a cost, or up to its own request. @param {Run} run @param {number} row @param {boolean} hasCost */
+function usedBefore(run, row, hasCost) {
+  if (run.whoAsked(row) !== "the clock") return 0;
+  if (run.lines[row] !== "tick") return run.momentAt(row) - run.momentAt(row - 1);
+  return hasCost ? run.columns.left.items[row - 1] : 0;
 }
 
 /** The first row after a moment. @param {(row: number) => number} momentOf @param {number} from @param {number} to @param {number} due */

@@ -35,8 +35,6 @@ export function lastUpTo(numbers, count, most) {
   return low - 1;
 }
 
-const LANE_COLUMNS = /** @type {const} */ (["keys", "ids", "values", "places"]);
-
 /** The log of one core set: since when it holds which job, and how. */
 class Lane {
   constructor() {
@@ -63,11 +61,34 @@ class Lane {
     this.count = k + 1;
   }
 
+  /** Who sleeps there last of all; 0 where nobody does. */
+  get sleeper() {
+    const last = this.count - 1;
+    return ((this.values.items[last] >> 4) & 3) === State.SLEEPS ? this.ids.items[last] : 0;
+  }
+
+  /** The entry that holds at a key; -1 where none does. @param {number} key */
+  entryAt(key) {
+    return lastUpTo(this.keys.items, this.count, key);
+  }
+
+  /** Until which key an entry holds: 0 where nothing came after. @param {number} entry */
+  endOf(entry) {
+    return entry + 1 < this.count ? this.keys.items[entry + 1] : 0;
+  }
+
+  /** The entries that hold at some time from one key to another. @param {number} from @param {number} to */
+  * over(from, to) {
+    for (let entry = Math.max(0, this.entryAt(from)); entry < this.count && this.keys.items[entry] <= to; entry++) yield entry;
+  }
+
   /** @param {number} key */
   front(key) {
     const made = new Lane();
-    made.count = lastUpTo(this.keys.items, this.count, key) + 1;
-    for (const name of LANE_COLUMNS) made[name] = /** @type {any} */ (this[name].front(made.count));
+    made.count = this.entryAt(key) + 1;
+    for (const name of /** @type {const} */ (["keys", "ids", "values", "places"])) {
+      made[name] = /** @type {any} */ (this[name].front(made.count));
+    }
     return made;
   }
 }
@@ -80,19 +101,18 @@ class Comers {
     this.bank = new Column(Uint16Array);
     this.born = new Column(Uint32Array);
     this.gone = new Column(Uint32Array);
+    /** A job's number, or when a task is due. */
     this.more = new Column(Uint32Array);
+    /** In which core set a job began, or where on the Waitlist a task waits; and which VAC area a job owns. */
     this.place = new Column(Uint8Array);
+    this.area = new Column(Uint8Array);
   }
 
-  /** @param {number} key @param {{ at: number, bank: number, more: number, place: number }} of */
-  come(key, { at, bank, more, place }) {
+  /** @param {number} key @param {{ at: number, bank: number, more: number, place: number, area?: number }} of */
+  come(key, { at, bank, more, place, area = 0 }) {
     const id = this.count++;
-    this.at.set(id, at);
-    this.bank.set(id, bank);
-    this.born.set(id, key);
-    this.gone.set(id, 0);
-    this.more.set(id, more);
-    this.place.set(id, place);
+    for (const [column, value] of /** @type {[Column<any>, number][]} */ ([[this.at, at], [this.bank, bank], [this.born, key],
+      [this.gone, 0], [this.more, more], [this.place, place], [this.area, area]])) column.set(id, value);
     return id;
   }
 
@@ -100,7 +120,7 @@ class Comers {
   front(key) {
     const made = new Comers();
     made.count = this.lastUpTo(key) + 1;
-    for (const name of /** @type {const} */ (["at", "bank", "born", "gone", "more", "place"])) {
+    for (const name of /** @type {const} */ (["at", "bank", "born", "gone", "more", "place", "area"])) {
       made[name] = /** @type {any} */ (this[name].front(made.count));
     }
     for (let id = 1; id < made.count; id++) {
@@ -112,6 +132,13 @@ class Comers {
   /** The last one that had come up to a key; 0 where none had. @param {number} key */
   lastUpTo(key) {
     return 1 + lastUpTo(this.born.items.subarray(1), this.count - 1, key);
+  }
+
+  /** Those that are there at some time after one key, up to another. @param {number} after @param {number} to */
+  * over(after, to) {
+    const { items } = this.gone;
+    const last = this.lastUpTo(to);
+    for (let id = 1; id <= last; id++) if (items[id] === 0 || items[id] > after) yield id;
   }
 
   /** Those that are still there. */
@@ -137,6 +164,8 @@ export class Lanes {
     this.events = { count: 0, rows: new Column(Uint32Array), by: new Column(Uint16Array) };
     /** The rows with which an era began. @type {number[]} */
     this.eras = [];
+    /** The rows with which a job began to need time, as it was established or roused. @type {{ row: number, at: number }[]} */
+    this.needs = [];
   }
 
   /** The jobs that are there since a key, by core set. @param {number} key @param {(Job | null)[]} jobs @param {boolean} beginsEra */
@@ -144,6 +173,7 @@ export class Lanes {
     if (beginsEra && key > 1) this.eras.push(key >> 1);
     const before = this.byNumber;
     const now = new Uint32Array(MOST_SETS + 1);
+    const sleepers = this.sets.map((it) => it.sleeper);
     for (let k = 0; k < this.sets.length; k++) {
       const job = jobs[k];
       if (job === null) {
@@ -152,8 +182,9 @@ export class Lanes {
       }
       const { number, at, bank, asleep, priority, area } = job;
       const isOld = !beginsEra && before[number] > 0;
-      const id = isOld ? before[number] : this.jobs.come(key, { at, bank, more: number, place: k });
+      const id = isOld ? before[number] : this.jobs.come(key, { at, bank, more: number, place: k, area });
       now[number] = id;
+      if (!asleep && (!isOld || sleepers.includes(id)) && (key & 1) === 1) this.needs.push({ row: key >> 1, at });
       const state = asleep ? State.SLEEPS : k === 0 ? State.RUNS : State.WAITS;
       this.sets[k].put(key, id, number | (state << 4) | (priority << 6) | (area << 11), at);
     }
@@ -207,6 +238,7 @@ export class Lanes {
     made.jobs = this.jobs.front(key);
     made.tasks = this.tasks.front(key);
     made.eras = this.eras.filter((it) => it <= row);
+    made.needs = this.needs.filter((it) => it.row <= row);
     for (const id of made.jobs.living()) made.byNumber[made.jobs.more.items[id]] = id;
     made.waiting = made.tasks.living();
     const count = lastUpTo(this.events.rows.items, this.events.count, row) + 1;
@@ -221,9 +253,8 @@ export class Lanes {
 
   /** @param {number} set @param {number} key */
   blockAtKey(set, key) {
-    const lane = this.sets[set];
-    const k = lastUpTo(lane.keys.items, lane.count, key);
-    return k < 0 ? null : this.block(set, k);
+    const entry = this.sets[set].entryAt(key);
+    return entry < 0 ? null : this.block(set, entry);
   }
 
   /** An entry of a core set's log, or null where the set is free. @param {number} set @param {number} k @returns {Block | null} */
@@ -235,7 +266,7 @@ export class Lanes {
     return {
       ...{ id, number: value & 15, state: (value >> 4) & 3, priority: (value >> 6) & 31 },
       ...{ area: value >> 11, at: this.jobs.at.items[id], now: lane.places.items[k] },
-      ...{ from: lane.keys.items[k], to: k + 1 < lane.count ? lane.keys.items[k + 1] : 0 },
+      ...{ from: lane.keys.items[k], to: lane.endOf(k) },
     };
   }
 }

@@ -35,8 +35,8 @@ const MOST_PASSED = 500;
 /** Which action each key is. */
 const KEYS = {
   ArrowLeft: "back", ArrowRight: "next", Home: "first", End: "last", a: "alarm-next", A: "alarm-back", c: "change-next", C: "change-back",
-  u: "undo", z: "undo", r: "redo", " ": "run", ".": "tick", n: "event", "?": "help", p: "plan", s: "save", o: "open", e: "examples", b: "new",
-  d: "edit", "+": "closer", "=": "closer", "-": "wider", f: "fit", x: "to-alarm", P: "projector",
+  u: "undo", z: "undo", r: "redo", " ": "run", ".": "tick", n: "event", "?": "help", s: "save", o: "open", e: "examples", b: "new",
+  d: "edit", "+": "closer", "=": "closer", "-": "wider", f: "fit", x: "to-alarm", p: "projector", P: "projector", Escape: "projector",
 };
 
 /** @param {KeyboardEvent} event */
@@ -47,6 +47,7 @@ function key(event) {
   const isPressed = on.matches("button, a, summary") && [" ", "Enter"].includes(event.key);
   const isControl = event.ctrlKey || event.metaKey;
   if (isTyped || isPressed || event.altKey || (isControl && event.key !== "z")) return;
+  if (event.key === "Escape" && !state().isProjected) return;
   const name = KEYS[/** @type {keyof typeof KEYS} */ (event.key)];
   const pressed = name === undefined ? null : document.getElementById(name);
   if (event.key === "i" || event.key === "/") by("line").focus();
@@ -92,20 +93,24 @@ function filling({ run, beside, before: older }, before) {
 
 /** @param {import("./run.js").Run} run @param {number} told when that was told last */
 function fillSome(run, told) {
-  const { run: now, beside, before } = state();
-  if (!run.isFilling || ![now, beside?.run, before?.run].includes(run)) return;
+  const { run: now, beside, before, tour: { tried } } = state();
+  if (!run.isFilling || ![now, beside?.run, before?.run, ...tried.map((it) => it.run)].includes(run)) return;
   fillOn(run);
   const isDue = !run.isFilling || performance.now() - told > 200;
   if (isDue) act("filled", run);
   setTimeout(fillSome, 0, run, isDue ? performance.now() : told);
 }
 
-/** What needn't keep up with time that passes is drawn a few times a second. @param {(now: State, before: State) => void} view */
+/** The state for which a calm view was drawn last. */
+let calmed = /** @type {State | null} */ (null);
+
+/** What needn't keep up with time that passes is drawn a few times a second, and of several such views one in a frame. @param {(now: State, before: State) => void} view */
 function calm(view) {
   const last = { before: /** @type {State | null} */ (null), time: 0 };
   return (/** @type {State} */ now, /** @type {State} */ before) => {
     last.before ??= before;
-    if (now.clock.isRunning && performance.now() - last.time < CALM) return;
+    if (now.clock.isRunning && (now === calmed || performance.now() - last.time < CALM)) return;
+    calmed = now;
     view(now, last.before);
     Object.assign(last, { before: null, time: performance.now() });
   };
@@ -133,7 +138,14 @@ function hear() {
   by("here").addEventListener("change", () => act("here", by("here").checked));
   by("words-box").addEventListener("toggle", () => drawWords(state()));
   window.addEventListener("resize", () => drawAgain());
-  window.addEventListener("beforeprint", () => print(state()));
+  window.addEventListener("beforeprint", () => {
+    const { run } = state();
+    if (run.isFilling) {
+      fillOn(run, Infinity);
+      act("filled", run);
+    }
+    print(state());
+  });
   for (const it of ["(prefers-color-scheme: dark)", "(forced-colors: active)"]) matchMedia(it).addEventListener("change", () => drawAgain());
   // (what is scrolled to stands below the bar, however high that is)
   const bar = /** @type {HTMLElement} */ (document.querySelector(".bar"));
@@ -155,6 +167,8 @@ function hear() {
 /** Begins: with the document within the page, with what the address says, or with a landing. */
 async function open() {
   const own = files.textOfData(by("document").textContent.replace(/^\n/, ""));
+  // (`agc_watch page --view chart` says so behind its document)
+  document.body.classList.toggle("chart-alone", document.getElementById("view")?.textContent === "chart");
   makeBoxes();
   makeList();
   makeCommon();

@@ -10,9 +10,10 @@
 import { accountOf } from "./account.js";
 import { becauseOf } from "./because.js";
 import { summaryOf } from "./chart.js";
-import { by, fill, make, withCode } from "./dom.js";
+import { by, fill, make, withCode, withNumbers } from "./dom.js";
 import { paint } from "./drawing-canvas.js";
 import { EXERCISES } from "./fields.js";
+import { linesOf } from "./job-table.js";
 import { cellsOf, styleOf } from "./list.js";
 import { isSaved } from "./saving.js";
 import { pictureSeen } from "./stage.js";
@@ -84,11 +85,12 @@ function requestsOf(run, count, names) {
   return [make("h2", {}, "Requests"), ...more, make("table", {}, by("rows").querySelector("thead").cloneNode(true), body)];
 }
 
-/** The jobs of a scenario, and why each alarm came. @param {Run} run @param {number} count @param {Names} names */
-function reasonsOf(run, count, names) {
+/** The jobs of a scenario, and why each alarm came. @param {State} now @param {Names} names */
+function reasonsOf(now, names) {
+  const { run, count } = now;
   const alarms = run.alarms.filter((it) => it <= count);
   const jobs = by("jobs").closest("table").cloneNode(true);
-  jobs.querySelector("tbody").removeAttribute("id");
+  jobs.querySelector("tbody").replaceWith(make("tbody", {}, ...linesOf(now)));
   const told = alarms.slice(0, MOST_ALARMS).map((row) => {
     const [shown] = run.show(row, row);
     return make("section", {}, make("h3", {}, `${shown.reply.slice(shown.reply.indexOf("alarm"))}, at ${(shown.ticks / 100).toFixed(2)} s`),
@@ -103,7 +105,8 @@ function reasonsOf(run, count, names) {
 function questionOf({ question, document, exercise }) {
   const [title, ...lines] = question.split("\n");
   const fields = (EXERCISES[exercise]?.fields ?? []).map((it) => it.label);
-  return [make("h1", {}, title), make("p", {}, ...withCode(lines.join(" "))), make("pre", { class: "plan" }, document.trim()),
+  return [make("h1", {}, `Exercise ${exercise.replace(/\D/g, "")}. ${title}`), make("p", {}, ...withCode(lines.join(" "))),
+    make("pre", { class: "asked" }, ...withNumbers(document.trim())),
     make("dl", { class: "answers" }, ...fields.flatMap((it) => [make("dt", {}, it), make("dd", {})])),
     make("h2", {}, "The requests"), make("table", { class: "legend" }, ...[...MEANINGS].map(([word, what]) =>
       make("tr", {}, make("td", {}, formOf(word)), make("td", {}, what)))),
@@ -121,8 +124,8 @@ export function print(now) {
   const isTimed = run.bench.seconds !== undefined;
   const plan = isTimed ? "" : isSaved(now).bench.trim();
   const chart = make("canvas", { id: "printed-chart", hidden: count === 0 });
-  fill("printed", [make("h1", {}, run.title), make("p", {}, `${summaryOf(run, count)} ${run.about}`), chart,
-    ...(isTimed ? reasonsOf(run, count, names) : requestsOf(run, count, names)),
-    ...(plan === "" ? [] : [make("h2", {}, "Plan"), make("pre", { class: "plan" }, plan)])]);
+  fill("printed", [make("h1", {}, run.title), make("p", {}, ...withCode(`${summaryOf(run, count)} ${run.about}`)), chart,
+    ...(isTimed ? reasonsOf(now, names) : requestsOf(run, count, names)),
+    ...(plan === "" ? [] : [make("h2", {}, "Document"), make("pre", { class: "plan" }, plan)])]);
   if (count > 0) paint(chart, pictureSeen(now));
 }

@@ -36,7 +36,7 @@ const WIDTHS = [300, 10_000];
 /** How wide a task is on average at least, in points, so that each is drawn by itself. */
 const LEAST_TASK = 8;
 
-const PARTS = ["title", "events", "work", "sets", "strips", "axis", "budget", "legend"];
+const PARTS = ["title", "events", "alarms", "work", "sets", "strips", "axis", "budget", "legend"];
 
 /** What is wrong with the words of the command, or with its document; and the status. */
 class Wrong extends Error {

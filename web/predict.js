@@ -1,50 +1,78 @@
 /**
- * What a reader expects of an exercise, before its answer is shown: the exercise's own fields. A first wrong try gets a
- * hint; with the second one the machine's answers are shown, and where they are seen.
+ * What a reader expects of an exercise: its own fields. A first wrong try gets a hint; with the second one the machine's
+ * answers are shown, and where they are seen. Fields that are left empty stay, so that it can be answered part by part.
  */
 import { button, labelled, make } from "./dom.js";
 import { EXERCISES, plainly, whole } from "./fields.js";
-import { act } from "./state.js";
+import { withoutQuestion } from "./files.js";
+import { act, isHidden } from "./state.js";
 
 /** @typedef {import("./state.js").State} State */
+/** @typedef {import("./fields.js").Field} Field */
 
-/** The fields of the exercise that is open. @param {State} now */
+/** The fields of the exercise that is open. @param {State} now @returns {Field[]} */
 const fieldsOf = ({ run }) => EXERCISES[run.source.exercise]?.fields ?? [];
+
+/** The answers that were asked for so far: some take a while. @type {Map<Field, { value: string, row?: number }>} */
+const answers = new Map();
+
+/** A field's answer: that of the exercise as it is asked, however a reader has changed it since. @param {State} now @param {Field} field */
+function answerOf({ kept, run }, field) {
+  const known = answers.get(field);
+  if (known !== undefined) return known;
+  const text = kept.find((it) => it.name === run.source.exercise)?.text ?? "";
+  const answer = field.answer(whole(withoutQuestion(text)));
+  answers.set(field, answer);
+  return answer;
+}
 
 /** What is right for each field that was filled, and whether it was said. @param {State} now @param {string[]} given */
 export function judged(now, given) {
-  const run = given.every((it) => it === "") ? now.run : whole(now.run.source.document);
-  return fieldsOf(now).flatMap(({ label, answer }, k) => {
-    if ((given[k] ?? "") === "") return [];
-    const { value, row } = answer(run);
-    return [{ label, given: given[k], value, row, isRight: plainly(given[k]) === plainly(value) }];
+  return fieldsOf(now).flatMap((field, k) => {
+    const text = given[k] ?? "";
+    if (text === "") return [];
+    const { value, row } = answerOf(now, field);
+    return [{ label: field.label, given: text, value, row, isRight: plainly(text) === plainly(value) }];
   });
 }
 
-/** The form of a prediction, with what was typed, and after a wrong try the hint. @param {State} now */
+/** What is said of a first try, if anything. @param {State} now @param {{ label: string, isRight: boolean }[]} all */
+function hintOf(now, all) {
+  const wrong = all.filter((it) => !it.isRight);
+  if (all.length === 0) return [];
+  const told = wrong.length === 0 ? "Right so far. And the others?"
+    : `Not yet: ${wrong.map((it) => it.label).join(" ")} ${EXERCISES[now.run.source.exercise].hint}`;
+  return [make("p", { class: "hint-given", id: "hint-given", role: "status" }, told)];
+}
+
+/** @param {Field} field @param {string} value @param {boolean} isWrong */
+function inputOf({ options, size = 6 }, value, isWrong) {
+  const more = isWrong ? { "aria-invalid": "true" } : {};
+  if (options === undefined) return make("input", { type: "text", size, autocomplete: "off", value, ...more });
+  return make("select", more, ...["", ...options].map((it) => make("option", { value: it, selected: it === value }, it === "" ? "–" : it)));
+}
+
+/** The form of a prediction, with what was typed and what is said of it; once the run is shown, only the fields that are empty still. @param {State} now */
 export function predictionOf(now) {
-  const { predicted, tries, run } = now;
-  const fields = fieldsOf(now).map(({ options }, k) => {
-    const value = predicted[k] ?? "";
-    if (options === undefined) return make("input", { type: "text", size: 6, autocomplete: "off", value });
-    return make("select", {}, ...["", ...options].map((it) => make("option", { value: it, selected: it === value }, it === "" ? "–" : it)));
-  });
-  const check = () => act("check", fields.map((it) => it.value.trim()));
-  const labels = fieldsOf(now).map(({ label }, k) => labelled(label, fields[k]));
-  const wrong = tries === 0 ? [] : judged(now, predicted).filter((it) => !it.isRight);
-  const told = wrong.length === 0 ? [] : [make("p", { class: "hint-given", id: "hint-given", role: "status" },
-    `Not yet: ${wrong.map((it) => `“${it.given}”`).join(", ")}. ${EXERCISES[run.source.exercise].hint}`)];
+  const given = fieldsOf(now).map((_, k) => now.predicted[k] ?? "");
+  const all = isHidden(now) ? judged(now, given) : [];
+  const isWrong = (/** @type {string} */ label) => all.some((it) => it.label === label && !it.isRight);
+  const inputs = fieldsOf(now).map((field, k) => (isHidden(now) || given[k] === "" ? inputOf(field, given[k], isWrong(field.label)) : null));
+  if (inputs.every((it) => it === null)) return [];
+  const check = () => act("check", inputs.map((it, k) => (it === null ? given[k] : it.value.trim())));
+  const labels = fieldsOf(now).flatMap(({ label }, k) => (inputs[k] === null ? [] : [labelled(label, inputs[k])]));
   return [make("div", { class: "fields", role: "group", "aria-label": "What do you expect?", id: "prediction",
     onkeydown: (/** @type {KeyboardEvent} */ event) => { if (event.key === "Enter" && event.target instanceof HTMLInputElement) check(); } }, ...labels,
-  button("Check", check, { id: "check-prediction", class: "primary" })), ...told];
+  button("Check", check, { id: "check-prediction", class: "primary" })), ...hintOf(now, all)];
 }
 
-/** What is said of a prediction, with links to where it is seen; nothing where none was made. @param {State} now @returns {any[]} */
+/** What is said of a prediction once the run is shown, with links to where it is seen; nothing where none was made. @param {State} now @returns {any[]} */
 export function verdictOf(now) {
   return judged(now, now.predicted).map(({ label, given, value, row, isRight }) => {
     const question = label.replace(/ Addresses$/, "");
     if (isRight) return make("li", { class: "right" }, `${question} Right: ${value}.`);
-    const link = row === undefined ? [] : [" See ", make("a", { href: `#${row}`, onclick: (/** @type {Event} */ event) => {
+    // (the rows of an exercise that was changed are others)
+    const link = row === undefined || now.run.source.isChanged ? [] : [" See ", make("a", { href: `#${row}`, onclick: (/** @type {Event} */ event) => {
       event.preventDefault();
       act("go", row);
     } }, `request ${row}`), "."];

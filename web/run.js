@@ -16,6 +16,7 @@ import { NUMBERS } from "../libagc/js/library.js";
 import { Code, Kind, Machine, refusalOf, sceneOf } from "../libagc/js/machine.js";
 import { Column } from "./column.js";
 import { Lanes } from "./lanes.js";
+import { costsOf, needOf } from "./work.js";
 
 /** How many rows lie between two checkpoints. */
 const APART = 256;
@@ -79,6 +80,8 @@ class Witness {
     this.running = 0;
     /** How many sets, areas and tasks are used, and whether no job is running: four bits each. */
     this.use = 0;
+    /** The jobs that don't sleep. @type {import("../libagc/js/machine.js").Job[]} */
+    this.awake = [];
     /** How many jobs of this era have begun, and how many are gone. */
     this.begun = 0;
     this.ended = 0;
@@ -132,6 +135,7 @@ class Witness {
     }
     this.living = living;
     this.running = running;
+    this.awake = sets.flatMap((job) => (job === null || job.asleep ? [] : [job]));
     const owned = areas.reduce((count, owner) => count + (owner === 0 ? 0 : 1), 0);
     this.use = used | (owned << 4) | (this.tasks.length << 8) | (running === 0 ? 1 << 12 : 0);
   }
@@ -232,7 +236,10 @@ export class Run {
       ...{ kinds: new Column(Uint8Array), numbers: new Column(Uint16Array) },
       ...{ by: new Column(Uint16Array), marks: new Column(Uint8Array) },
       ...{ ticks: new Column(Uint32Array), uses: new Column(Uint16Array) },
+      // (the clock's centisecond, how many hundredths of it are left, and what jobs still need)
+      ...{ times: new Column(Uint32Array), left: new Column(Uint8Array), waiting: new Column(Uint32Array) },
     };
+    this.costs = costsOf(bench);
     /** @type {number[]} */
     this.alarms = [];
     /** The rows that weren't served. @type {number[]} */
@@ -246,6 +253,14 @@ export class Run {
     this.head.lanes = this.lanes;
     this.head.look(0, true, true);
     this.columns.uses.set(0, this.head.use);
+    this.noteWork(0);
+    this.checkpoints = [this.head.copy()];
+  }
+
+  /** Gives the run a clock, before anything is asked. @param {import("../libagc/js/machine.js").Clock} clock */
+  startClock(clock) {
+    this.head.clock = clock;
+    this.noteWork(0);
     this.checkpoints = [this.head.copy()];
   }
 
@@ -319,11 +334,25 @@ export class Run {
     numbers.set(row, step === null ? 0 : step.number);
     ticks.set(row, this.head.now);
     uses.set(row, this.head.use);
+    this.noteWork(row);
     const changes = step !== null && isChange(step, line, before, this.head.running);
     marks.set(row, (changes ? CHANGE : 0) | (step !== null && step.alarm !== 0 ? ALARM : 0));
     if (step !== null && step.alarm !== 0) this.alarms.push(row);
     if (step === null) this.refused.push(row);
     if (row % APART === 0) this.checkpoints.push(this.head.copy());
+  }
+
+  /** Keeps what a row has left of the clock's centisecond, and of its jobs' work. @param {number} row */
+  noteWork(row) {
+    const { clock, awake } = this.head;
+    this.columns.times.set(row, clock?.time ?? 0);
+    this.columns.left.set(row, clock?.left ?? 0);
+    this.columns.waiting.set(row, clock === null ? 0 : needOf(this.costs, awake, clock.given));
+  }
+
+  /** When a row was asked, in hundredths of a centisecond of the clock. @param {number} row */
+  momentAt(row) {
+    return 100 * this.columns.times.items[row] - this.columns.left.items[row];
   }
 
   /** An event with several requests is one mark. @param {number} row @param {number} asker */
@@ -366,7 +395,9 @@ export class Run {
   change(bench, given) {
     this.changes.push({ row: this.count, given, before: this.bench });
     this.bench = { ...this.bench, ...bench };
+    this.costs = costsOf(this.bench);
     this.head.clock.change(given);
+    this.noteWork(this.count);
   }
 
   /** Whether a row was asked by the clock, or by one of its events. @param {number} row */
@@ -385,6 +416,7 @@ export class Run {
       Object.entries(this.columns).map(([name, it]) => [name, it.front(row + 1)]),
     );
     made.bench = this.changes.find((it) => it.row > row)?.before ?? this.bench;
+    made.costs = costsOf(made.bench);
     made.changes = this.changes.filter((it) => it.row <= row);
     made.alarms = this.alarms.filter((it) => it <= row);
     made.refused = this.refused.filter((it) => it <= row);

@@ -228,7 +228,7 @@ function stealText(steal) {
     rows.push({ from: it.from, value: String(it.percent) });
     end = it.to;
   }
-  const told = beats.map((it) => `${it.percent} for ${it.to - it.from} of each ${it.every} cs`);
+  const told = beats.map((it) => `${it.percent} for ${seconds(it.to - it.from)} of each ${seconds(Number(it.every))}`);
   if (beats.length > 0 && rows.length === 0) return told.join(", ");
   return [...new Set(told), historyOf(rows)].join(", else ");
 }
@@ -247,9 +247,9 @@ function overTime(run, told) {
   return historyOf(all.filter((it, k) => k + 1 === all.length || all[k + 1].from > it.from));
 }
 
-/** @param {import("./bench.js").JobRow["cost"] | undefined} cost */
+/** @param {import("./bench.js").JobRow["cost"]} cost */
 function costText(cost) {
-  return typeof cost === "object" ? `${cost.from} to ${cost.to}` : String(cost);
+  return typeof cost === "object" ? `${seconds(cost.from)} to ${seconds(cost.to)}` : seconds(cost);
 }
 
 /** How a run differs from its document, in full; nothing where it doesn't. @param {Run} run */
@@ -262,12 +262,12 @@ export function differencesOf(run) {
   };
   add("steal", stealText(bench.steal), stealText(given.steal), " %");
   given.job.forEach((it, k) =>
-    add(`${visible(it.name ?? it.at)} costs`, overTime(run, (one) => costText(one.job[k]?.cost)), costText(it.cost), " cs"));
+    add(`${visible(it.name ?? it.at)} costs`, overTime(run, (one) => costText(one.job[k]?.cost ?? 0)), costText(it.cost)));
   add("seed", overTime(run, (one) => String(one.seed)), String(given.seed));
   add("core sets", String(bench.sets ?? 7), String(given.sets ?? 7));
   const periods = periodsOf(given);
   periodsOf(bench).forEach((it, k) => {
-    if (periods[k]?.name === it.name) add(it.name, String(it.value), String(periods[k].value), " cs");
+    if (periods[k]?.name === it.name) add(it.name, seconds(it.value), seconds(periods[k].value));
   });
   for (const it of given.event) {
     if (!bench.event.some((one) => one.at === it.at && one.name === it.name)) {

@@ -5,7 +5,8 @@
  */
 import { paint } from "./drawing-canvas.js";
 import { summaryOf } from "./chart.js";
-import { PARTS, hitAt, pictureOf, placeAtX, xOfRow } from "./drawing.js";
+import { PARTS, pictureOf } from "./drawing.js";
+import { hitAt, partAtX, placeAtX, xOfRow } from "./drawing-words.js";
 import { assign, attribute, by, fill, make, set } from "./dom.js";
 import { act, coloursOf, differ, isHidden, namesOf, scaleOf, state } from "./state.js";
 import { seconds } from "./words.js";
@@ -35,18 +36,28 @@ export function themeNow() {
   return matchMedia("(prefers-color-scheme: dark)").matches ? "dark" : "light";
 }
 
-/** How large lanes and text are: as the page's text is. */
-function sizes() {
-  if (window.innerWidth <= 640) return { high: 19, text: 12, strips: ["areas"] };
+/** What the tour's picture has: what its words need. */
+const TOURED = ["alarms", "work", "sets", "axis", "budget", "notes"];
+
+/** How large lanes and text are, as the page's text is, and what is drawn. @param {State} now */
+function sizes({ tour, isProjected }) {
+  const isToured = tour.step > 0;
+  if (window.innerWidth <= 640) return { high: 19, text: 12, strips: ["areas"], parts: isToured ? TOURED : [...PARTS, "notes"] };
   const size = parseFloat(getComputedStyle(document.documentElement).fontSize);
-  return { high: Math.round(1.87 * size), text: Math.round(0.8 * size), parts: [...PARTS, "legend"] };
+  const lanes = Math.max(1.87, Math.min(2.8, window.innerHeight / (21 * size)));
+  return { high: Math.round((isToured || isProjected ? lanes : 1.87) * size), text: Math.round(0.8 * size), parts: isToured ? TOURED : isProjected ? ["events", ...TOURED, "legend"] : [...PARTS, "notes", "legend"] };
 }
 
-/** @param {State} now @param {number} width @param {"light" | "dark" | "forced"} theme */
-function pictureNow(now, width, theme) {
-  const { run, count, opened, selection, before } = now;
+/** What is seen of the run, as a picture. @param {State} now @param {import("./drawing.js").View} view how */
+function pictureAs(now, view) {
+  const { run, count, opened, selection } = now;
   const { from, to } = scaleOf(now);
-  return pictureOf(run, count, { width, from, to, opened, selection, before, theme, names: namesOf(run), colours: coloursOf(run), ...sizes() });
+  return pictureOf(run, count, { from, to, opened, selection, names: namesOf(run), colours: coloursOf(run), ...view });
+}
+
+/** The same for paper, or as a picture of its own. @param {State} now */
+export function pictureSeen(now) {
+  return pictureAs(now, { width: PAPER_WIDE, high: 20, parts: [...PARTS, "notes", "legend"] });
 }
 
 /** Whether rows were added that needn't be painted yet. @param {State} now */
@@ -66,7 +77,7 @@ export function chart(now, before) {
   attribute(by("slider"), "aria-valuetext", `request ${now.at} of ${now.count}`);
   if (!isThere) return;
   if (differ(now, before, "run", "count", "hidden")) set(by("summary"), summaryOf(now.run, now.count));
-  const isOther = differ(now, before, "run", "seen", "opened", "selection", "before", "hidden", "isProjected", "isEmbedded");
+  const isOther = differ(now, before, "run", "seen", "opened", "selection", "before", "hidden", "isProjected", "isEmbedded", "tour");
   if (isOther || drawn.picture === null || (drawn.picture.count !== now.count && !canWait(now))) paintNow(now);
   if (differ(now, before, "at") || isOther) drawAt(now);
 }
@@ -74,32 +85,34 @@ export function chart(now, before) {
 /** @param {State} now */
 function paintNow(now) {
   const canvas = by("lanes-chart");
-  const picture = pictureNow(now, by("lanes-box").clientWidth, themeNow());
+  const picture = pictureAs(now, { width: by("lanes-box").clientWidth, before: now.before, theme: themeNow(), ...sizes(now) });
   paint(canvas, picture);
   Object.assign(drawn, { picture, time: performance.now() });
   const { from, to, isWhole } = picture.scale;
   by("chart-box").dataset.seen = `${Math.round(from)}-${Math.round(to)}`;
   assign(by("fit"), { disabled: isWhole });
   assign(by("dismiss"), { hidden: now.before === null });
-  for (const id of ["cursor", "range"]) Object.assign(by(id).style, { top: `${picture.plot.top}px`, height: `${picture.plot.bottom - picture.plot.top}px` });
+  for (const id of ["cursor", "range", "future"]) Object.assign(by(id).style, { top: `${picture.plot.top}px`, height: `${picture.plot.bottom - picture.plot.top}px` });
+  const [first] = picture.bands.filter((it) => it.kind === "set");
+  by("future").style.setProperty("--lanes", `${first.top - picture.plot.top}px`);
+  by("future").style.setProperty("--lane", `${first.bottom - first.top}px`);
   tellLanes(now, picture);
   drawAt(now);
 }
 
 /** What each lane holds, for those who hear the page. @param {State} now @param {Picture} picture */
-function tellLanes({ run, count }, { scale }) {
+function tellLanes({ run }, { scale }) {
   const names = namesOf(run);
   const when = (/** @type {number} */ row) => (scale.isTime ? seconds(run.ticksAt(row)) : `request ${row}`);
   const rows = run.lanes.sets.map((lane, k) => {
     const told = [];
     let last = 0;
-    for (let n = 0; n < lane.count && told.length < MOST_TOLD; n++) {
-      const block = run.lanes.block(k, n);
+    for (const entry of lane.over(scale.keyAt(scale.from), scale.lastKey)) {
+      const block = run.lanes.block(k, entry);
+      if (told.length === MOST_TOLD || (block !== null && scale.placeOf(block.from >> 1) > scale.to)) break;
       if (block === null || block.id === last) continue;
-      const [from, to] = [block.from >> 1, block.to >> 1 || count];
-      if (scale.placeOf(to) < scale.from || scale.placeOf(from) > scale.to || from > count) continue;
       last = block.id;
-      told.push(`${names.job(block.at) ?? `job ${block.number}`} from ${when(from)}`);
+      told.push(`${names.job(block.at) ?? `job ${block.number}`} from ${when(block.from >> 1)}`);
     }
     return `Core set ${k}: ${told.length === 0 ? "free" : told.join(", ")}${told.length === MOST_TOLD ? ", and so on" : ""}.`;
   });
@@ -108,20 +121,16 @@ function tellLanes({ run, count }, { scale }) {
   rows.forEach((it, k) => set(list.children[k], it));
 }
 
-/** @param {State} now */
-function drawAt({ at }) {
+/** Where the row is, and in the tour's first steps empty lanes over what comes after it. @param {State} now */
+function drawAt({ at, tour, run }) {
   const { picture } = drawn;
   if (picture === null) return;
   const x = xOfRow(picture, at);
   assign(by("cursor"), { hidden: x < picture.plot.left - 1 || x > picture.plot.right + 1 });
   by("cursor").style.left = `${x}px`;
-}
-
-/** What is seen of the run, for paper, or as a picture of its own. @param {State} now */
-export function pictureSeen(now) {
-  const { run, count, opened, selection } = now;
-  const { from, to } = scaleOf(now);
-  return pictureOf(run, count, { width: PAPER_WIDE, from, to, opened, selection, high: 20, parts: [...PARTS, "legend"], names: namesOf(run), colours: coloursOf(run) });
+  by("cursor").classList.toggle("alarm", run.isAlarm(at));
+  assign(by("future"), { hidden: tour.step === 0 || tour.step > 2 || x > picture.plot.right });
+  Object.assign(by("future").style, { left: `${x}px`, width: `${picture.plot.right - x + 2}px` });
 }
 
 /** Where an event is on the picture. @param {MouseEvent} event @returns {[number, number]} */
@@ -130,10 +139,9 @@ function pointOf(event) {
   return [event.clientX - box.left, event.clientY - box.top];
 }
 
-/** How far across an event is, of the part where time runs. @param {number} x */
+/** Which part of the width a point is at. @param {number} x */
 function partOf(x) {
-  const { left, right } = /** @type {Picture} */ (drawn.picture).plot;
-  return Math.max(0, Math.min(1, (x - left) / (right - left)));
+  return partAtX(/** @type {Picture} */ (drawn.picture), x);
 }
 
 /** Tells what is at the pointer, beside it. @param {MouseEvent} event */

@@ -2,7 +2,7 @@
 import { accountOf, nameOfRestart, orderOf, standingOf } from "./account.js";
 import { becauseOf } from "./because.js";
 import { outcomeOf } from "./chart.js";
-import { assign, button, by, fill, make, set, withCode } from "./dom.js";
+import { assign, button, by, fill, make, set, withCode, withNumbers } from "./dom.js";
 import { FIRST_ASKED } from "./first.js";
 import { GUESSES } from "./guesses.js";
 import { pieceOf } from "./pieces.js";
@@ -14,6 +14,9 @@ import { octal, seconds, visible } from "./words.js";
 /** @typedef {import("./state.js").State} State @typedef {[string, string, ...any[]]} Try what is on the button, the action, and what it is given */
 
 const SEEN = "agc-workbench-guide";
+
+/** Which table is full at an alarm that comes in place of 1202. @type {Record<number, string>} */
+const FULL = { 0o1201: "all five VAC areas are taken", 0o1203: "the Waitlist is full" };
 
 /** How many events may be left out. */
 const MOST_EVENTS = 2;
@@ -33,31 +36,34 @@ function tourOf(now) {
   const guesses = Object.entries(GUESSES).filter(([name]) => !tour.tried.some((it) => it.name === name))
     .map(([name, { label }]) => /** @type {Try} */ ([label, "guess", name]));
   return /** @type {{ text: string, steps: Try[] }[]} */ ([
-    { text: "In July 1969, minutes before it landed on the Moon, Apollo 11's computer ran out of room. This landing is like that one.\nEach row of the "
-        + "chart is a core set: a block of twelve words. A job needs one to exist, and there are seven. Bright is running, pale is waiting.", steps: [["Run", "run"]] },
-    { text: "Every two seconds a guidance job begins, the SERVICER. Watch the rows fill: more and more of them wait for the one before.",
-      steps: [["To the alarm", "alarm-next"]] },
-    { text: "Alarm 1202: all seven core sets are taken, and one more job asks for one.\nWhat would have prevented it? Guess first:",
-      steps: [...guesses, ...(tour.isWhy ? [] : [/** @type {Try} */ (["Why?", "why"])])] },
-    { text: [firstBecause(now), guesses.length > 0 ? "Try the others:" : "Now move the numbers below, or press New for an empty machine."].join("\n"),
-      steps: guesses },
+    { text: "In July 1969, minutes before it landed on the Moon, Apollo 11's computer ran out of room. This landing is like that one.\nThe computer shares its time "
+        + "among jobs. Each job needs a core set, a block of twelve words of memory, and there are seven: the rows of the picture.", steps: [["Run", "run"]] },
+    { text: "Every two seconds a guidance job begins, the SERVICER, which needs 1.7 s. A radar that nobody needs steals 0.3 s, and the display takes 0.24 s.\n"
+        + "That is 2.24 s of work in every two, 112 %. Bright: the job that runs, always in set 0. Pale: jobs that wait, and still hold their core sets.", steps: [["To the alarm", "alarm-next"]] },
+    { text: `Alarm 1202: one more job asks for a core set, and all seven are taken.\n${firstBecause(now)} Two sleeping jobs hold the other two.\n`
+        + "What would have prevented it? Guess:", steps: guesses },
+    { text: guesses.length > 0 ? "Try the others:" : "Less work prevents the alarm; more room only delays it.\nIn 1969 nobody had time to try. "
+        + "But with each alarm the computer restarted: it dropped the jobs that waited and went on with the guidance, five times, down to the Moon.",
+      steps: guesses.length > 0 ? guesses : [["Apollo 11: five alarms", "kept", "apollo-11"]] },
   ])[tour.step - 1];
 }
 
-/** Why the first alarm came in the run before the guesses. @param {State} now */
-function firstBecause({ before, run }) {
-  const first = before?.run ?? run;
-  const row = first.alarms[0];
-  const text = row === undefined ? "" : becauseOf(first, rowsOf(first).at(row), namesOf(first));
-  return text === "" ? "" : `At the alarm ${text[0].toLowerCase()}${text.slice(1)}`;
+/** Why the first alarm came. @param {State} now */
+function firstBecause({ run, tour }) {
+  const [row] = run.alarms;
+  return tour.step < 3 || row === undefined ? "" : becauseOf(run, rowsOf(run).at(row), namesOf(run));
 }
 
 /** What came of a guess. @param {{ name: string, run: import("./run.js").Run }} tried */
-function triedText({ name, run }) {
+export function triedText({ name, run }) {
   const [first] = run.alarms;
   const { done } = GUESSES[name];
-  if (first !== undefined) return `${done}: still alarm ${octal(run.columns.numbers.items[first], 4)}, at ${seconds(run.ticksAt(first))}.`;
-  return run.isFilling ? `${done}: no alarm up to ${seconds(run.head.now)} …` : `${done}: no alarm in ${run.bench.seconds} s. That prevents it.`;
+  if (first !== undefined) {
+    const number = run.columns.numbers.items[first];
+    const when = `at ${seconds(run.ticksAt(first))}`;
+    return number === 0o1202 ? `${done}: still alarm 1202, ${when}.` : `${done}: alarm ${octal(number, 4)} ${when}: ${FULL[number]}.`;
+  }
+  return run.isFilling ? `${done}: no alarm up to ${seconds(run.head.now)} …` : `${done}: no alarm in ${run.bench.seconds} s.`;
 }
 
 /** Buttons of an element, made anew only where they differ. @param {string} id @param {Try[]} steps @param {(it: Try, k: number) => any} [more] */
@@ -75,8 +81,10 @@ function buttons(id, steps, more = () => ({})) {
 
 /** @param {State} now @param {State} before */
 export function tour(now, before) {
+  if (!differ(now, before, "tour", "run", "count", "before", "clock")) return;
   const { step, tried } = now.tour;
   assign(by("guide"), { hidden: step === 0, className: `guide step-${step}` });
+  document.body.classList.toggle("touring", step > 0);
   if (before.tour !== undefined && before.tour.step > 0 && step === 0) {
     try {
       localStorage.setItem(SEEN, "seen");
@@ -90,7 +98,7 @@ export function tour(now, before) {
   const [lead, ...more] = text.split("\n");
   if (by("guide-text").textContent !== [lead, ...more].join(" ")) fill("guide-text", [lead, ...more.flatMap((it) => [" ", make("span", { class: "more" }, it)])]);
   buttons("guide-steps", [...steps, [step === 4 ? "Done" : "Skip", "tour", 0]], ([, action], k) =>
-    ({ class: k === 0 && step < 3 ? "primary" : action === "tour" ? "quiet last" : action === "why" ? "quiet" : "" }));
+    ({ class: k === 0 && steps.length === 1 ? "primary" : action === "tour" ? "quiet last" : "" }));
   const lines = tried.map(triedText);
   const list = by("tried");
   if (list.childElementCount !== lines.length) fill(list, lines.map(() => make("li")));
@@ -115,9 +123,10 @@ function atBeginning({ run, count }, shown) {
 function atAlarm({ run, beside }, shown) {
   const { bench } = run;
   /** @type {Try[]} */
-  const found = [["The row before", "go", shown.row - 1]];
-  if (shown.step?.number === 0o1202 && run.sets === 7) found.push([beside === null ? "With eight core sets?" : "Stop comparing", "beside-sets-button"]);
-  if (bench.seconds === undefined) return found;
+  const found = [];
+  const isFewer = shown.step?.number === 0o1202 && run.sets === 7;
+  if (bench.seconds === undefined) return isFewer ? [[beside === null ? "With eight core sets?" : "Stop comparing", "beside-sets-button"]] : [];
+  if (isFewer) found.push(["With eight core sets?", "change", { sets: 8 }, true]);
   const isStolen = typeof bench.steal === "number" ? bench.steal > 0 : bench.steal.length > 0;
   if (isStolen) found.push(["Without stolen time?", "change", { steal: 0 }, true]);
   const later = bench.event.filter((it) => it.name !== undefined && (it.at > 0 || it.after !== undefined));
@@ -125,7 +134,7 @@ function atAlarm({ run, beside }, shown) {
 }
 
 /** What may be tried at a row: where an exercise's answer is hidden, only what doesn't give it away. @param {State} now @param {any} shown @returns {Try[]} */
-function triesOf(now, shown) {
+export function triesOf(now, shown) {
   if (shown.row === 0) return isHidden(now) ? [] : atBeginning(now, shown);
   if (shown.kind === LOG_FULL) return [["With room for a million requests", "room"]];
   const restart = nameOfRestart(shown.line);
@@ -144,14 +153,13 @@ export function account(now, before) {
   const shown = shownOf(now);
   const names = namesOf(run);
   const { heading, lines, isAlarm } = accountOf(run, shown, names, { about: run.about, count, isHidden: isHidden(now) });
-  // (the tour asks for a guess first)
-  assign(by("told"), { hidden: now.tour.step > 0 && !(now.tour.isWhy && isAlarm), className: isAlarm ? "told alarm" : shown.row === 0 ? "told" : "told plain" });
+  const isPlain = shown.row > 0 && !isAlarm && !shown.isAfter && !isHidden(now);
+  assign(by("told"), { hidden: now.tour.step > 0, className: `told${isAlarm ? " alarm" : isPlain ? " plain" : ""}` });
   set(by("told-name"), heading);
   set(by("because"), isAlarm ? becauseOf(run, shown, names) : "");
   buttons("try", triesOf(now, shown));
   assign(by("try"), { hidden: by("try").childElementCount === 0 });
   const isAsked = shown.who !== "nobody" && !shown.isAfter;
-  const isPlain = shown.row > 0 && !isAlarm && !shown.isAfter && !isHidden(now);
   const all = [...lines, ...(isAsked ? [[`Asked by ${shown.who}.`]] : []), ...(isPlain ? [[standingOf(shown, names)]] : [])];
   const key = JSON.stringify(all);
   if (key === drawn) return;
@@ -183,10 +191,10 @@ export function question(now, before) {
   fill("question", [
     make("h2", { class: "which", id: "which" }, `Exercise ${at + 1} of ${names.length}`),
     make("p", {}, ...withCode(lines.join(" "))),
-    make("div", { class: "parts", role: "group", "aria-label": "The document" }, ...document.trim().split(/\n\n+/).map((it) => make("pre", {}, it))),
+    make("div", { class: "parts", role: "group", "aria-label": "The document" }, ...document.trim().split(/\n\n+/).map((it) => make("pre", {}, ...withNumbers(it)))),
     ...(order === "" ? [] : [make("p", { id: "order" }, order)]),
-    ...(isHidden(now) ? predictionOf(now) : []),
     ...(verdict.length === 0 ? [] : [make("ul", { class: "verdict", id: "verdict", role: "status" }, ...verdict)]),
+    ...predictionOf(now),
     make("div", { class: "steps" }, ...(isHidden(now) ? [button("Show what happens", () => act("reveal"), { id: "show-answer" })] : []),
       button("Change it", () => act("edit"), { id: "change-exercise" }),
       ...(next === undefined ? [] : [button("Next exercise", () => act("kept", next), { id: "exercise-next" })]),

@@ -43,17 +43,22 @@ class Swept {
   constructor(bench, number) {
     /** @type {Map<number, First>[]} */
     this.firsts = [new Map(), new Map()];
-    this.values = valuesOf(number);
-    this.runs = this.values.flatMap((value) => [7, 8].map((sets) => ({ value, sets, steps: () => firstAlarm({ ...bench, ...number.given(value), sets }) })));
     this.bench = bench;
     this.number = number;
+    this.runs = valuesOf(number).flatMap((value) => this.runsOf(value));
     this.steps = /** @type {Generator<undefined, First> | null} */ (null);
+  }
+
+  /** @param {number} value */
+  runsOf(value) {
+    return [7, 8].map((sets) => ({ value, sets, steps: () => firstAlarm({ ...this.bench, ...this.number.given(value), sets }) }));
   }
 
   /** The value that the slider has comes next, if it isn't known. @param {number} value */
   want(value) {
-    if (this.firsts[0].has(value) || this.runs.some((it) => it.value === value)) return;
-    this.runs.splice(this.steps === null ? 0 : 1, 0, ...[7, 8].map((sets) => ({ value, sets, steps: () => firstAlarm({ ...this.bench, ...this.number.given(value), sets }) })));
+    if (this.firsts[0].has(value)) return;
+    const begun = this.runs.splice(0, this.steps === null ? 0 : 1);
+    this.runs = [...begun, ...this.runsOf(value), ...this.runs.filter((it) => it.value !== value)];
   }
 
   get isDone() {

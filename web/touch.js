@@ -78,7 +78,7 @@ const TOLD = {
     const row = run.bench.task.find((/** @type {any} */ it) => it.at === octal(task.at, 5) && it.bank === octal(task.bank, 5));
     const does = row === undefined ? "The document doesn't say what it does: it does nothing." : `As it comes due: ${row.action.join(", then ")}.`;
     return { name, pieces: [`Task ${namesOf(run).ofTask(task)} waits`, ...sinceOf(run, shown.tasksSince[k]),
-      `, and is due in ${task.left} cs, at ${seconds(shown.ticks + task.left)}. ${does}`] };
+      `, and is due in ${seconds(task.left)}, at ${seconds(shown.ticks + task.left)}. ${does}`] };
   },
   phases(run, shown, k) {
     const phase = shown.scene.phases[k];
@@ -155,5 +155,6 @@ export function touch(now, before) {
   set(by("touch-name"), name);
   fill("touch-body", [make("p", { class: "what" }, GLOSSARY[list]), make("p", {}, ...pieces.map(pieceOf)),
     ...(actions.length === 0 ? [] : [make("div", { class: "steps" }, ...actions)])]);
-  if (before.touched !== touched) by("touch").scrollIntoView({ block: "nearest" });
+  // (the box stays where it is, or comes out from below what is told of it)
+  if (before.touched !== touched) by(list).children[touched.k].scrollIntoView({ block: "nearest" });
 }

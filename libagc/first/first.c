@@ -11,13 +11,13 @@ int main(void) {
     AgcRequest tick = {AGC_TICK, 0, 0, 0};
 
     if (agc_clear(words, 7) != AGC_OK) return 1;
-    AgcStep step = agc_ask(words, 7, &plan, &phase, fired, moment);
+    AgcStep step = agc_step(words, 7, &plan, &phase, fired, moment);
     while (step.reply != AGC_ALARMED)
-        step = agc_ask(words, 7, &plan, &job, fired, moment);
+        step = agc_step(words, 7, &plan, &job, fired, moment);
     AgcJob front = agc_job_at(words, 7, 0);
     printf("alarm %o, then job %u runs at %05o\n", step.number, front.number, front.at);
     while (step.fired == 0)
-        step = agc_ask(words, 7, &plan, &tick, fired, moment);
+        step = agc_step(words, 7, &plan, &tick, fired, moment);
     printf("tick %05o/%05o\n", fired[0].at, fired[0].bank);
     return 0;
 }

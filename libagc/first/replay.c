@@ -19,14 +19,14 @@ int main(void) {
     unsigned served = 0;
 
     if (agc_clear(words, 7) != AGC_OK) return 1;
-    AgcNumber who = agc_clock_ask(words, 7, &times, &clock, &request);
+    AgcNumber who = agc_clock_next(words, 7, &times, &clock, &request);
     while (who.number) {
-        AgcStep step = agc_ask(words, 7, &plan, &request, fired, moment);
+        AgcStep step = agc_step(words, 7, &plan, &request, fired, moment);
         served++;
         if (step.reply == AGC_ALARMED || step.reply == AGC_TICK_ALARMED)
             printf("%.2f s, request %u: alarm %o\n", clock.time / 100.0, served, step.number);
         if (agc_clock_served(words, 7, &step, &clock) != AGC_OK) return 1;
-        who = agc_clock_ask(words, 7, &times, &clock, &request);
+        who = agc_clock_next(words, 7, &times, &clock, &request);
     }
     if (who.code != AGC_OK) return puts(agc_code_text(who.code)), 1;
     printf("%.2f s, request %u: the end\n", clock.time / 100.0, served);

@@ -15,9 +15,9 @@
  * memory, has no global state, opens nothing and calls back nothing.
  *
  * POINTERS. `words` must point to AGC_WORDS numbers of uint16_t (agc_recover: AGC_PHASE_WORDS),
- * aligned as uint16_t is, and not be null: agc_pointer tells. No other array may share them. Rows and
- * entries of a plan may be null where there are none of them; every other pointer must point to what
- * its type says, aligned as that is.
+ * aligned as uint16_t is, and not be null: agc_pointer tells. No other array may share them. A list of
+ * a plan, a timetable or a pulse may be null where its count is 0; every other pointer must point to
+ * what its type says, aligned as that is.
  *
  * THREADS. Each call may be made on any thread. During a call no other thread may read or write its
  * array, but for those that take it as const, at which others may read. Two arrays know nothing of
@@ -303,7 +303,7 @@ typedef struct {
     uint32_t delay, task_at, task_bank;
 } AgcPhaseEntry;
 
-/* A plan, for agc_ask: its rows and its entries, which may be null where there are none. */
+/* A plan: its rows and its entries. */
 typedef struct {
     const AgcRow *rows;
     size_t row_count;
@@ -334,7 +334,7 @@ typedef struct { uint32_t at, hundredths, then, first, count, spread; } AgcCost;
    distance of 0 counts as 1), and it doesn't come before agc_clock_told was told of that. */
 typedef struct { uint32_t at, every, until, first, count, after; } AgcEvent;
 
-/* A timetable, for agc_clock_ask: how many centiseconds it lasts, and its rows and requests. */
+/* A timetable: how many centiseconds it lasts, and its rows and requests. */
 typedef struct {
     uint32_t lasts;
     const AgcStolen *stolen;
@@ -442,19 +442,22 @@ AGC_INLINE uint32_t agc_pointer(const uint16_t *words) {
 
 /* Whether rows and entries make a plan: AGC_OK, and then no era of it begins with an alarm; or the
    first of AGC_PLAN_RANGE, AGC_TASK_TWICE, AGC_PHASE_TWICE and AGC_TOO_MANY_AREAS. */
-AGC_USED uint32_t agc_plan_check(const AgcRow *rows, size_t row_count, const AgcPhaseEntry *entries, size_t entry_count);
+AGC_USED uint32_t agc_plan_check(const AgcPlan *plan);
 
 /* Which row or entry is the first with which a plan lacks what agc_plan_check says: its place among the
    rows, or how many rows there are and its place among the entries; the number of both where it lacks
    nothing. */
 AGC_INLINE size_t agc_plan_first(const AgcPlan *plan) {
-    uint32_t code = agc_plan_check(plan->rows, plan->row_count, plan->entries, plan->entry_count);
+    uint32_t code = agc_plan_check(plan);
+    AgcPlan part = *plan;
     size_t low = 0, high = plan->row_count + plan->entry_count;
     if (code == AGC_OK) return high;
     /* more rows never lack less */
     while (low + 1 < high) {
-        size_t count = (low + high) / 2, rows = count < plan->row_count ? count : plan->row_count;
-        if (agc_plan_check(plan->rows, rows, plan->entries, count - rows) == code) high = count;
+        size_t count = (low + high) / 2;
+        part.row_count = count < plan->row_count ? count : plan->row_count;
+        part.entry_count = count - part.row_count;
+        if (agc_plan_check(&part) == code) high = count;
         else low = count;
     }
     return low;
@@ -469,19 +472,10 @@ AGC_INLINE size_t agc_plan_first(const AgcPlan *plan) {
    a task is due; AGC_UNTIDY; those of agc_plan_check. The trusted form looks at the request alone; a
    number of the plan that is out of range then does nothing, and of two rows or entries the first
    counts. */
-AGC_USED AgcStep agc_step(uint16_t words[AGC_WORDS], uint32_t sets, const AgcRow *rows, size_t row_count,
-                 const AgcPhaseEntry *entries, size_t entry_count, const AgcRequest *request,
+AGC_USED AgcStep agc_step(uint16_t words[AGC_WORDS], uint32_t sets, const AgcPlan *plan, const AgcRequest *request,
                  AgcFired fired[AGC_FIRED], uint16_t moment[AGC_WORDS]);
-AGC_USED AgcStep agc_step_trusted(uint16_t words[AGC_WORDS], uint32_t sets, const AgcRow *rows, size_t row_count,
-                         const AgcPhaseEntry *entries, size_t entry_count, const AgcRequest *request,
-                         AgcFired fired[AGC_FIRED], uint16_t moment[AGC_WORDS]);
-
-/* agc_step by a plan in one struct. */
-AGC_INLINE AGC_USED AgcStep agc_ask(uint16_t words[AGC_WORDS], uint32_t sets, const AgcPlan *plan,
-                                    const AgcRequest *request, AgcFired fired[AGC_FIRED],
-                                    uint16_t moment[AGC_WORDS]) {
-    return agc_step(words, sets, plan->rows, plan->row_count, plan->entries, plan->entry_count, request, fired, moment);
-}
+AGC_USED AgcStep agc_step_trusted(uint16_t words[AGC_WORDS], uint32_t sets, const AgcPlan *plan,
+                         const AgcRequest *request, AgcFired fired[AGC_FIRED], uint16_t moment[AGC_WORDS]);
 
 /* An era begins, as after an alarm: its code is recorded, all jobs and tasks are gone, and then for
    groups 1 to 6 in order the plan's entry for the group's phase begins, its job and then its task.
@@ -537,32 +531,19 @@ AGC_USED AgcNumber agc_pulse(uint32_t line, const AgcAction *key, size_t key_cou
                     size_t radar_count, AgcRequest requests[AGC_ACTIONS]);
 
 /* Whether rows make a timetable: AGC_OK, or the first of AGC_TIME_RANGE, AGC_STEAL_TWICE and
-   AGC_COST_TWICE. Of all rows and requests there may be none, and they may then be null. */
-AGC_USED uint32_t agc_clock_check(const AgcStolen *stolen, size_t stolen_count, const AgcCost *costs, size_t cost_count,
-                         const AgcEvent *events, size_t event_count, const AgcRequest *requests, size_t request_count);
+   AGC_COST_TWICE. */
+AGC_USED uint32_t agc_clock_check(const AgcTimetable *table);
 
-/* The next request of a clock for a machine with these words, which goes on for `lasts` centiseconds.
-   docs/TIME.md says how time passes. The number tells who asks: 1 the clock, 2 and more an event, the
+/* The next request of a clock for a machine with these words. docs/TIME.md says how time passes. The number tells who asks: 1 the clock, 2 and more an event, the
    first being 2; and then *request is to be asked, and agc_clock_served to be told of it. It is 0 where
    the time is over, and *request stays. Codes: those of the image, then those of agc_clock_check. The
    trusted form looks at neither, and has the condition of other calls: an address that is out of its
    range then counts as 037777, numbers that are no request as AGC_CHANGE, a job's requests end before the
    first that it can't ask for, and of two rows for one time or address the first counts. */
-AGC_USED AgcNumber agc_clock_next(const uint16_t words[AGC_WORDS], uint32_t sets, uint32_t lasts, const AgcStolen *stolen,
-                         size_t stolen_count, const AgcCost *costs, size_t cost_count, const AgcEvent *events,
-                         size_t event_count, const AgcRequest *requests, size_t request_count, AgcClock *clock,
-                         AgcRequest *request);
-AGC_USED AgcNumber agc_clock_next_trusted(const uint16_t words[AGC_WORDS], uint32_t sets, uint32_t lasts, const AgcStolen *stolen,
-                                 size_t stolen_count, const AgcCost *costs, size_t cost_count, const AgcEvent *events,
-                                 size_t event_count, const AgcRequest *requests, size_t request_count, AgcClock *clock,
-                                 AgcRequest *request);
-
-/* agc_clock_next by a timetable in one struct. */
-AGC_INLINE AGC_USED AgcNumber agc_clock_ask(const uint16_t words[AGC_WORDS], uint32_t sets, const AgcTimetable *it,
-                                            AgcClock *clock, AgcRequest *request) {
-    return agc_clock_next(words, sets, it->lasts, it->stolen, it->stolen_count, it->costs, it->cost_count, it->events,
-                          it->event_count, it->requests, it->request_count, clock, request);
-}
+AGC_USED AgcNumber agc_clock_next(const uint16_t words[AGC_WORDS], uint32_t sets, const AgcTimetable *table,
+                         AgcClock *clock, AgcRequest *request);
+AGC_USED AgcNumber agc_clock_next_trusted(const uint16_t words[AGC_WORDS], uint32_t sets, const AgcTimetable *table,
+                                 AgcClock *clock, AgcRequest *request);
 
 /* A clock takes what came of a request, also of one that it didn't ask for: the words as the step left
    them, and what agc_step answered. Codes of the image. */

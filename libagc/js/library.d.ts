@@ -1,118 +1,1068 @@
-/** The library as agc.h has it. tools/bindings wrote this from agc.h, the tables of keys and the forms of lines. */
-
-/** What a call lacked: the first that applies. */
-export declare const Code: {
-  readonly OK: 0;
-  readonly NO_SUCH_SETS: 1;
-  readonly NOT_WORDS: 2;
-  readonly UNLAWFUL: 3;
-  readonly OUT_OF_RANGE: 4;
-  readonly NOT_A_WORD: 5;
-  readonly NOT_NOW: 6;
-  readonly UNTIDY: 8;
-  readonly PLAN_RANGE: 9;
-  readonly TASK_TWICE: 10;
-  readonly PHASE_TWICE: 11;
-  readonly TOO_MANY_AREAS: 12;
-  readonly NOT_SPELLED: 13;
-  readonly NO_ROOM: 14;
-  readonly TIME_RANGE: 15;
-  readonly STEAL_TWICE: 16;
-  readonly COST_TWICE: 17;
-  readonly SPENT: 19;
-  readonly LOG_FULL: 20;
-};
-
-/** The kinds of replies. */
-export declare const Kind: {
-  readonly ESTABLISHED: 1;
-  readonly LEFT: 2;
-  readonly IDLE: 3;
-  readonly ROUSED: 4;
-  readonly NO_SLEEPER: 5;
-  readonly NO_JOB: 6;
-  readonly RUNS: 7;
-  readonly STORED: 8;
-  readonly LISTED: 9;
-  readonly ALARMED: 10;
-  readonly PHASED: 11;
-  readonly TICKED: 12;
-  readonly TICK_ALARMED: 13;
-  readonly RESTARTED: 14;
-};
-
+/** tools/bindings had tsc write this from the comments of the modules. */
 /**
- * What agc.wasm exports, for those who instantiate it themselves: the calls as agc.h has them.
- * Pointers are places in `memory` from `__heap_base` on, of which a caller makes as much as it wants
- * by `memory.grow`. What is returned as a struct in C is written to `answer`.
+ * The library as agc.h has it. tools/bindings wrote this from agc.h, the tables of keys and the forms of lines.
  */
-export interface Library {
-  memory: WebAssembly.Memory;
-  __heap_base: WebAssembly.Global;
-  agc_plan_check(rows: bigint, row_count: bigint, entries: bigint, entry_count: bigint): number;
-  agc_step(answer: bigint, words: bigint, sets: number, rows: bigint, row_count: bigint, entries: bigint, entry_count: bigint, request: bigint, fired: bigint, moment: bigint): void;
-  agc_step_trusted(answer: bigint, words: bigint, sets: number, rows: bigint, row_count: bigint, entries: bigint, entry_count: bigint, request: bigint, fired: bigint, moment: bigint): void;
-  agc_begin(words: bigint, sets: number, alarm: number, entries: bigint, entry_count: bigint): number;
-  agc_begin_trusted(words: bigint, sets: number, alarm: number, entries: bigint, entry_count: bigint): number;
-  agc_power_up(answer: bigint, words: bigint, sets: number, entries: bigint, entry_count: bigint, phase_words: bigint): void;
-  agc_power_up_trusted(answer: bigint, words: bigint, sets: number, entries: bigint, entry_count: bigint, phase_words: bigint): void;
-  agc_read_request(text: bigint, length: bigint, request: bigint): number;
-  agc_read_action(text: bigint, length: bigint, action: bigint): number;
-  agc_write_reply(answer: bigint, step: bigint, fired: bigint, text: bigint, room: bigint): void;
-  agc_write_rule(answer: bigint, rule: number, text: bigint, room: bigint): void;
-  agc_write_report(answer: bigint, words: bigint, sets: number, totals: bigint, text: bigint, room: bigint): void;
-  agc_refusal(request: bigint, bounds: bigint): number;
-  agc_pulse(answer: bigint, line: number, key: bigint, key_count: bigint, radar: bigint, radar_count: bigint, requests: bigint): void;
-  agc_clock_check(stolen: bigint, stolen_count: bigint, costs: bigint, cost_count: bigint, events: bigint, event_count: bigint, requests: bigint, request_count: bigint): number;
-  agc_clock_next(answer: bigint, words: bigint, sets: number, lasts: number, stolen: bigint, stolen_count: bigint, costs: bigint, cost_count: bigint, events: bigint, event_count: bigint, requests: bigint, request_count: bigint, clock: bigint, request: bigint): void;
-  agc_clock_next_trusted(answer: bigint, words: bigint, sets: number, lasts: number, stolen: bigint, stolen_count: bigint, costs: bigint, cost_count: bigint, events: bigint, event_count: bigint, requests: bigint, request_count: bigint, clock: bigint, request: bigint): void;
-  agc_clock_served(words: bigint, sets: number, step: bigint, clock: bigint): number;
-  agc_clock_served_trusted(words: bigint, sets: number, step: bigint, clock: bigint): number;
-  agc_clock_told(step: bigint, clock: bigint, event: bigint): number;
-  agc_clear(words: bigint, sets: number): number;
-  agc_check(answer: bigint, words: bigint, sets: number): void;
-  agc_explain(answer: bigint, words: bigint, sets: number): void;
-  agc_job_at(answer: bigint, words: bigint, sets: number, set: number): void;
-  agc_next(answer: bigint, words: bigint, sets: number): void;
-  agc_task_at(answer: bigint, words: bigint, sets: number, place: number): void;
-  agc_phase_at(answer: bigint, words: bigint, sets: number, group: number): void;
-  agc_failreg(answer: bigint, words: bigint, sets: number, place: number): void;
-  agc_scene(words: bigint, sets: number, scene: bigint): number;
-  agc_version(): number;
-  agc_restart(words: bigint, sets: number): number;
-  agc_migrate(words: bigint): number;
-  agc_novac(answer: bigint, words: bigint, sets: number, priority: number, at: number, bank: number): void;
-  agc_novac_trusted(answer: bigint, words: bigint, sets: number, priority: number, at: number, bank: number): void;
-  agc_findvac(answer: bigint, words: bigint, sets: number, priority: number, at: number, bank: number): void;
-  agc_findvac_trusted(answer: bigint, words: bigint, sets: number, priority: number, at: number, bank: number): void;
-  agc_end_of_job(answer: bigint, words: bigint, sets: number): void;
-  agc_end_of_job_trusted(answer: bigint, words: bigint, sets: number): void;
-  agc_job_sleep(answer: bigint, words: bigint, sets: number, at: number): void;
-  agc_job_sleep_trusted(answer: bigint, words: bigint, sets: number, at: number): void;
-  agc_job_wake(answer: bigint, words: bigint, sets: number, at: number): void;
-  agc_job_wake_trusted(answer: bigint, words: bigint, sets: number, at: number): void;
-  agc_prio_change(answer: bigint, words: bigint, sets: number, priority: number): void;
-  agc_prio_change_trusted(answer: bigint, words: bigint, sets: number, priority: number): void;
-  agc_change_job(answer: bigint, words: bigint, sets: number): void;
-  agc_change_job_trusted(answer: bigint, words: bigint, sets: number): void;
-  agc_store(answer: bigint, words: bigint, sets: number, place: number, word: number): void;
-  agc_store_trusted(answer: bigint, words: bigint, sets: number, place: number, word: number): void;
-  agc_running(answer: bigint, words: bigint, sets: number): void;
-  agc_running_trusted(answer: bigint, words: bigint, sets: number): void;
-  agc_list(answer: bigint, words: bigint, sets: number, delay: number, at: number, bank: number): void;
-  agc_list_trusted(answer: bigint, words: bigint, sets: number, delay: number, at: number, bank: number): void;
-  agc_count_time3(answer: bigint, words: bigint, sets: number): void;
-  agc_count_time3_trusted(answer: bigint, words: bigint, sets: number): void;
-  agc_due(answer: bigint, words: bigint, sets: number): void;
-  agc_due_trusted(answer: bigint, words: bigint, sets: number): void;
-  agc_dispatch(answer: bigint, words: bigint, sets: number): void;
-  agc_dispatch_trusted(answer: bigint, words: bigint, sets: number): void;
-  agc_set_phase(words: bigint, sets: number, group: number, phase: number): number;
-  agc_set_phase_trusted(words: bigint, sets: number, group: number, phase: number): number;
-  agc_record_alarm(words: bigint, sets: number, alarm: number): number;
-  agc_record_alarm_trusted(words: bigint, sets: number, alarm: number): number;
-  agc_recover(answer: bigint, words: bigint): void;
-  agc_add(answer: bigint, a: number, b: number): void;
-  agc_negative(answer: bigint, word: number): void;
-  agc_value(answer: bigint, word: number): void;
-}
+/**
+ * What agc.wasm exports, for those who instantiate it themselves: the calls as agc.h has them. Pointers are places in
+ * `memory` from `__heap_base` on, of which a caller makes as much as it wants by `memory.grow`. What is returned as a
+ * struct in C is written to `answer`.
+ * @typedef {{
+ *  memory: WebAssembly.Memory, __heap_base: WebAssembly.Global,
+ *  agc_plan_check(plan: bigint): number,
+ *  agc_step(answer: bigint, words: bigint, sets: number, plan: bigint, request: bigint, fired: bigint, moment: bigint): void,
+ *  agc_step_trusted(answer: bigint, words: bigint, sets: number, plan: bigint, request: bigint, fired: bigint, moment: bigint): void,
+ *  agc_begin(words: bigint, sets: number, alarm: number, entries: bigint, entry_count: bigint): number,
+ *  agc_begin_trusted(words: bigint, sets: number, alarm: number, entries: bigint, entry_count: bigint): number,
+ *  agc_power_up(answer: bigint, words: bigint, sets: number, entries: bigint, entry_count: bigint, phase_words: bigint): void,
+ *  agc_power_up_trusted(answer: bigint, words: bigint, sets: number, entries: bigint, entry_count: bigint, phase_words: bigint): void,
+ *  agc_read_request(text: bigint, length: bigint, request: bigint): number,
+ *  agc_read_action(text: bigint, length: bigint, action: bigint): number,
+ *  agc_write_reply(answer: bigint, step: bigint, fired: bigint, text: bigint, room: bigint): void,
+ *  agc_write_rule(answer: bigint, rule: number, text: bigint, room: bigint): void,
+ *  agc_write_report(answer: bigint, words: bigint, sets: number, totals: bigint, text: bigint, room: bigint): void,
+ *  agc_refusal(request: bigint, bounds: bigint): number,
+ *  agc_pulse(answer: bigint, line: number, key: bigint, key_count: bigint, radar: bigint, radar_count: bigint, requests: bigint): void,
+ *  agc_clock_check(table: bigint): number,
+ *  agc_clock_next(answer: bigint, words: bigint, sets: number, table: bigint, clock: bigint, request: bigint): void,
+ *  agc_clock_next_trusted(answer: bigint, words: bigint, sets: number, table: bigint, clock: bigint, request: bigint): void,
+ *  agc_clock_served(words: bigint, sets: number, step: bigint, clock: bigint): number,
+ *  agc_clock_served_trusted(words: bigint, sets: number, step: bigint, clock: bigint): number,
+ *  agc_clock_told(step: bigint, clock: bigint, event: bigint): number,
+ *  agc_clear(words: bigint, sets: number): number,
+ *  agc_check(answer: bigint, words: bigint, sets: number): void,
+ *  agc_explain(answer: bigint, words: bigint, sets: number): void,
+ *  agc_job_at(answer: bigint, words: bigint, sets: number, set: number): void,
+ *  agc_next(answer: bigint, words: bigint, sets: number): void,
+ *  agc_task_at(answer: bigint, words: bigint, sets: number, place: number): void,
+ *  agc_phase_at(answer: bigint, words: bigint, sets: number, group: number): void,
+ *  agc_failreg(answer: bigint, words: bigint, sets: number, place: number): void,
+ *  agc_scene(words: bigint, sets: number, scene: bigint): number,
+ *  agc_version(): number,
+ *  agc_restart(words: bigint, sets: number): number,
+ *  agc_migrate(words: bigint): number,
+ *  agc_novac(answer: bigint, words: bigint, sets: number, priority: number, at: number, bank: number): void,
+ *  agc_novac_trusted(answer: bigint, words: bigint, sets: number, priority: number, at: number, bank: number): void,
+ *  agc_findvac(answer: bigint, words: bigint, sets: number, priority: number, at: number, bank: number): void,
+ *  agc_findvac_trusted(answer: bigint, words: bigint, sets: number, priority: number, at: number, bank: number): void,
+ *  agc_end_of_job(answer: bigint, words: bigint, sets: number): void,
+ *  agc_end_of_job_trusted(answer: bigint, words: bigint, sets: number): void,
+ *  agc_job_sleep(answer: bigint, words: bigint, sets: number, at: number): void,
+ *  agc_job_sleep_trusted(answer: bigint, words: bigint, sets: number, at: number): void,
+ *  agc_job_wake(answer: bigint, words: bigint, sets: number, at: number): void,
+ *  agc_job_wake_trusted(answer: bigint, words: bigint, sets: number, at: number): void,
+ *  agc_prio_change(answer: bigint, words: bigint, sets: number, priority: number): void,
+ *  agc_prio_change_trusted(answer: bigint, words: bigint, sets: number, priority: number): void,
+ *  agc_change_job(answer: bigint, words: bigint, sets: number): void,
+ *  agc_change_job_trusted(answer: bigint, words: bigint, sets: number): void,
+ *  agc_store(answer: bigint, words: bigint, sets: number, place: number, word: number): void,
+ *  agc_store_trusted(answer: bigint, words: bigint, sets: number, place: number, word: number): void,
+ *  agc_running(answer: bigint, words: bigint, sets: number): void,
+ *  agc_running_trusted(answer: bigint, words: bigint, sets: number): void,
+ *  agc_list(answer: bigint, words: bigint, sets: number, delay: number, at: number, bank: number): void,
+ *  agc_list_trusted(answer: bigint, words: bigint, sets: number, delay: number, at: number, bank: number): void,
+ *  agc_count_time3(answer: bigint, words: bigint, sets: number): void,
+ *  agc_count_time3_trusted(answer: bigint, words: bigint, sets: number): void,
+ *  agc_due(answer: bigint, words: bigint, sets: number): void,
+ *  agc_due_trusted(answer: bigint, words: bigint, sets: number): void,
+ *  agc_dispatch(answer: bigint, words: bigint, sets: number): void,
+ *  agc_dispatch_trusted(answer: bigint, words: bigint, sets: number): void,
+ *  agc_set_phase(words: bigint, sets: number, group: number, phase: number): number,
+ *  agc_set_phase_trusted(words: bigint, sets: number, group: number, phase: number): number,
+ *  agc_record_alarm(words: bigint, sets: number, alarm: number): number,
+ *  agc_record_alarm_trusted(words: bigint, sets: number, alarm: number): number,
+ *  agc_recover(answer: bigint, words: bigint): void,
+ *  agc_add(answer: bigint, a: number, b: number): void,
+ *  agc_negative(answer: bigint, word: number): void,
+ *  agc_value(answer: bigint, word: number): void,
+ * }} Library
+ */
+/** @typedef {{ sets?: number, limit?: number, allowance?: number, attends?: number, key?: string | readonly string[], radar?: string | readonly string[], power?: readonly string[], script?: readonly string[], task?: readonly Task[], phase?: readonly Phase[], worker?: readonly Worker[], device?: readonly Device[] }} Bench */
+/** @typedef {{ at: string | number, bank: string | number, action: string | readonly string[] }} Task */
+/** @typedef {{ group: number, phase: number, job?: string, task?: string }} Phase */
+/** @typedef {{ script: readonly string[] }} Worker */
+/** @typedef {{ script: readonly string[], repeat?: boolean }} ExploredWorker */
+/** @typedef {{ line: string, pulses: number }} Device */
+/** @typedef {{ seconds: number, title?: string, seed?: number, sets?: number, limit?: number, allowance?: number, key?: string | readonly string[], radar?: string | readonly string[], power?: readonly string[], steal?: number, task?: readonly NamedTask[], phase?: readonly NamedPhase[], job?: readonly Job[], event?: readonly Event[] }} Scenario */
+/** @typedef {{ at: string | number, bank: string | number, action: string | readonly string[], name?: string }} NamedTask */
+/** @typedef {{ group: number, phase: number, job?: string, task?: string, name?: string }} NamedPhase */
+/** @typedef {{ from: number, to: number, percent: number, every?: number, until?: number }} Steal */
+/** @typedef {{ from: number, to: number }} Cost */
+/** @typedef {{ at: string | number, cost: number, deadline?: number, then?: string | readonly string[], name?: string }} Job */
+/** @typedef {{ at: number, after?: string, do: string | readonly string[], every?: number, until?: number, name?: string }} Event */
+/** What a call lacked: the first that applies. */
+export const Code: Readonly<{
+    OK: 0;
+    NO_SUCH_SETS: 1;
+    NOT_WORDS: 2;
+    UNLAWFUL: 3;
+    OUT_OF_RANGE: 4;
+    NOT_A_WORD: 5;
+    NOT_NOW: 6;
+    UNTIDY: 8;
+    PLAN_RANGE: 9;
+    TASK_TWICE: 10;
+    PHASE_TWICE: 11;
+    TOO_MANY_AREAS: 12;
+    NOT_SPELLED: 13;
+    NO_ROOM: 14;
+    TIME_RANGE: 15;
+    STEAL_TWICE: 16;
+    COST_TWICE: 17;
+    SPENT: 19;
+    LOG_FULL: 20;
+}>;
+/** The kinds of replies. */
+export const Kind: Readonly<{
+    ESTABLISHED: 1;
+    LEFT: 2;
+    IDLE: 3;
+    ROUSED: 4;
+    NO_SLEEPER: 5;
+    NO_JOB: 6;
+    RUNS: 7;
+    STORED: 8;
+    LISTED: 9;
+    ALARMED: 10;
+    PHASED: 11;
+    TICKED: 12;
+    TICK_ALARMED: 13;
+    RESTARTED: 14;
+}>;
+/** @type {Record<number, string>} */
+export const CODE_TEXTS: Record<number, string>;
+/** @type {Record<number, string>} */
+export const REPLY_TEXTS: Record<number, string>;
+/** How many there are of what, and the places of words. */
+export const NUMBERS: Readonly<{
+    MPAC: 0;
+    MODE: 7;
+    LOC: 8;
+    BANKSET: 9;
+    PUSHLOC: 10;
+    PRIORITY: 11;
+    SET_SIZE: 12;
+    USE_WORDS: 84;
+    NEWJOB: 89;
+    TIME3: 90;
+    LST1: 91;
+    LST2: 99;
+    FAILREG: 129;
+    LAST_SET: 132;
+    WORDS: 144;
+    PHASE_WORDS: 12;
+    PHASE_PLACE: 117;
+    FIRED: 9;
+    ACTIONS: 4;
+    MOST_SETS: 8;
+    TASKS: 9;
+    AREAS: 5;
+    GROUPS: 6;
+    CODES: 3;
+    WORK: 6;
+    LINE: 128;
+    REPORT: 2048;
+    ANY: 65535;
+}>;
+/** How large each struct is, and where its fields are in it. */
+export const LAYOUT: Readonly<{
+    AgcReply: {
+        size: number;
+        code: number;
+        reply: number;
+        number: number;
+    };
+    AgcNumber: {
+        size: number;
+        code: number;
+        number: number;
+    };
+    AgcTruth: {
+        size: number;
+        code: number;
+        truth: number;
+    };
+    AgcTask: {
+        size: number;
+        code: number;
+        at: number;
+        bank: number;
+    };
+    AgcJob: {
+        size: number;
+        code: number;
+        number: number;
+        priority: number;
+        at: number;
+        bank: number;
+        area: number;
+        asleep: number;
+        work: number;
+    };
+    AgcWaiting: {
+        size: number;
+        code: number;
+        at: number;
+        bank: number;
+        left: number;
+    };
+    AgcScene: {
+        size: number;
+        running: number;
+        next: number;
+        sets: number;
+        areas: number;
+        tasks: number;
+        failreg: number;
+        phases: number;
+    };
+    AgcFinding: {
+        size: number;
+        code: number;
+        rule: number;
+        place: number;
+        found: number;
+        wanted: number;
+    };
+    AgcPhases: {
+        size: number;
+        code: number;
+        phases: number;
+    };
+    AgcSum: {
+        size: number;
+        code: number;
+        bits: number;
+        overflow: number;
+    };
+    AgcValue: {
+        size: number;
+        code: number;
+        value: number;
+    };
+    AgcRequest: {
+        size: number;
+        kind: number;
+        first: number;
+        second: number;
+        third: number;
+    };
+    AgcRow: {
+        size: number;
+        at: number;
+        bank: number;
+        actions: number;
+    };
+    AgcFired: {
+        size: number;
+        at: number;
+        bank: number;
+    };
+    AgcStep: {
+        size: number;
+        code: number;
+        reply: number;
+        number: number;
+        fired: number;
+        action: number;
+    };
+    AgcTotals: {
+        size: number;
+        served: number;
+        alarms_1201: number;
+        alarms_1202: number;
+        alarms_1203: number;
+        restarts: number;
+    };
+    AgcBounds: {
+        size: number;
+        served: number;
+        allowance: number;
+        logged: number;
+        limit: number;
+    };
+    AgcPhaseEntry: {
+        size: number;
+        group: number;
+        phase: number;
+        job: number;
+        priority: number;
+        job_at: number;
+        job_bank: number;
+        delay: number;
+        task_at: number;
+        task_bank: number;
+    };
+    AgcPlan: {
+        size: number;
+        rows: number;
+        row_count: number;
+        entries: number;
+        entry_count: number;
+    };
+    AgcStolen: {
+        size: number;
+        from: number;
+        to: number;
+        percent: number;
+        every: number;
+        until: number;
+    };
+    AgcCost: {
+        size: number;
+        at: number;
+        hundredths: number;
+        then: number;
+        first: number;
+        count: number;
+        spread: number;
+    };
+    AgcEvent: {
+        size: number;
+        at: number;
+        every: number;
+        until: number;
+        first: number;
+        count: number;
+        after: number;
+    };
+    AgcTimetable: {
+        size: number;
+        lasts: number;
+        stolen: number;
+        stolen_count: number;
+        costs: number;
+        cost_count: number;
+        events: number;
+        event_count: number;
+        requests: number;
+        request_count: number;
+    };
+    AgcClock: {
+        size: number;
+        time: number;
+        event: number;
+        asked: number;
+        looks: number;
+        left: number;
+        given: number;
+        lot: number;
+    };
+}>;
+/** What each place of the words is called. */
+export const PLACES: string[];
+/** The numbers of lines: `digits` is how many octal ones, and 0 where a number is decimal. */
+export const PARTS: Readonly<{
+    P: {
+        name: string;
+        sentence: string;
+        digits: number;
+        low: number;
+        high: number;
+    };
+    A: {
+        name: string;
+        sentence: string;
+        digits: number;
+        low: number;
+        high: number;
+    };
+    W: {
+        name: string;
+        sentence: string;
+        digits: number;
+        low: number;
+        high: number;
+    };
+    D: {
+        name: string;
+        sentence: string;
+        digits: number;
+        low: number;
+        high: number;
+    };
+    K: {
+        name: string;
+        sentence: string;
+        digits: number;
+        low: number;
+        high: number;
+    };
+    G: {
+        name: string;
+        sentence: string;
+        digits: number;
+        low: number;
+        high: number;
+    };
+    N: {
+        name: string;
+        sentence: string;
+        digits: number;
+        low: number;
+        high: number;
+    };
+}>;
+/** Each request's kind, and a letter for each of its numbers. */
+export const FORMS: Map<string, {
+    kind: number;
+    letters: string;
+}>;
+export const REQUEST_KINDS: string[];
+export const ACTION_KINDS: string[];
+export const JOB_KINDS: string[];
+export const LEAVING_KINDS: string[];
+export const STEP_KINDS: string[];
+export const LISTING_KINDS: string[];
+/** What is wrong with a line that begins as none of a list does. */
+export const OTHERWISE: Map<string[], string>;
+export const DEVICES: string[];
+/** The keys of each kind of table. */
+export const KEYS: Readonly<{
+    bench: {
+        sets: {
+            kind: string;
+            form: string;
+            low: number;
+            high: bigint;
+            required: boolean;
+        };
+        limit: {
+            kind: string;
+            form: string;
+            low: number;
+            high: bigint;
+            required: boolean;
+        };
+        allowance: {
+            kind: string;
+            form: string;
+            low: number;
+            high: bigint;
+            required: boolean;
+        };
+        attends: {
+            kind: string;
+            form: string;
+            low: number;
+            high: bigint;
+            required: boolean;
+        };
+        key: {
+            kind: string;
+            form: string;
+            low: number;
+            high: bigint;
+            required: boolean;
+        };
+        radar: {
+            kind: string;
+            form: string;
+            low: number;
+            high: bigint;
+            required: boolean;
+        };
+        power: {
+            kind: string;
+            form: string;
+            low: number;
+            high: bigint;
+            required: boolean;
+        };
+        script: {
+            kind: string;
+            form: string;
+            low: number;
+            high: bigint;
+            required: boolean;
+        };
+        task: {
+            kind: string;
+            form: string;
+            low: number;
+            high: bigint;
+            required: boolean;
+        };
+        phase: {
+            kind: string;
+            form: string;
+            low: number;
+            high: bigint;
+            required: boolean;
+        };
+        worker: {
+            kind: string;
+            form: string;
+            low: number;
+            high: bigint;
+            required: boolean;
+        };
+        device: {
+            kind: string;
+            form: string;
+            low: number;
+            high: bigint;
+            required: boolean;
+        };
+    };
+    task: {
+        at: {
+            kind: string;
+            form: string;
+            low: number;
+            high: bigint;
+            required: boolean;
+        };
+        bank: {
+            kind: string;
+            form: string;
+            low: number;
+            high: bigint;
+            required: boolean;
+        };
+        action: {
+            kind: string;
+            form: string;
+            low: number;
+            high: bigint;
+            required: boolean;
+        };
+    };
+    phase: {
+        group: {
+            kind: string;
+            form: string;
+            low: number;
+            high: bigint;
+            required: boolean;
+        };
+        phase: {
+            kind: string;
+            form: string;
+            low: number;
+            high: bigint;
+            required: boolean;
+        };
+        job: {
+            kind: string;
+            form: string;
+            low: number;
+            high: bigint;
+            required: boolean;
+        };
+        task: {
+            kind: string;
+            form: string;
+            low: number;
+            high: bigint;
+            required: boolean;
+        };
+    };
+    worker: {
+        script: {
+            kind: string;
+            form: string;
+            low: number;
+            high: bigint;
+            required: boolean;
+        };
+    };
+    exploredWorker: {
+        script: {
+            kind: string;
+            form: string;
+            low: number;
+            high: bigint;
+            required: boolean;
+        };
+        repeat: {
+            kind: string;
+            form: string;
+            low: number;
+            high: bigint;
+            required: boolean;
+        };
+    };
+    device: {
+        line: {
+            kind: string;
+            form: string;
+            low: number;
+            high: bigint;
+            required: boolean;
+        };
+        pulses: {
+            kind: string;
+            form: string;
+            low: number;
+            high: bigint;
+            required: boolean;
+        };
+    };
+    scenario: {
+        seconds: {
+            kind: string;
+            form: string;
+            low: number;
+            high: bigint;
+            required: boolean;
+        };
+        title: {
+            kind: string;
+            form: string;
+            low: number;
+            high: bigint;
+            required: boolean;
+        };
+        seed: {
+            kind: string;
+            form: string;
+            low: number;
+            high: bigint;
+            required: boolean;
+        };
+        sets: {
+            kind: string;
+            form: string;
+            low: number;
+            high: bigint;
+            required: boolean;
+        };
+        limit: {
+            kind: string;
+            form: string;
+            low: number;
+            high: bigint;
+            required: boolean;
+        };
+        allowance: {
+            kind: string;
+            form: string;
+            low: number;
+            high: bigint;
+            required: boolean;
+        };
+        key: {
+            kind: string;
+            form: string;
+            low: number;
+            high: bigint;
+            required: boolean;
+        };
+        radar: {
+            kind: string;
+            form: string;
+            low: number;
+            high: bigint;
+            required: boolean;
+        };
+        power: {
+            kind: string;
+            form: string;
+            low: number;
+            high: bigint;
+            required: boolean;
+        };
+        steal: {
+            kind: string;
+            form: string;
+            low: number;
+            high: bigint;
+            required: boolean;
+        };
+        task: {
+            kind: string;
+            form: string;
+            low: number;
+            high: bigint;
+            required: boolean;
+        };
+        phase: {
+            kind: string;
+            form: string;
+            low: number;
+            high: bigint;
+            required: boolean;
+        };
+        job: {
+            kind: string;
+            form: string;
+            low: number;
+            high: bigint;
+            required: boolean;
+        };
+        event: {
+            kind: string;
+            form: string;
+            low: number;
+            high: bigint;
+            required: boolean;
+        };
+    };
+    namedTask: {
+        at: {
+            kind: string;
+            form: string;
+            low: number;
+            high: bigint;
+            required: boolean;
+        };
+        bank: {
+            kind: string;
+            form: string;
+            low: number;
+            high: bigint;
+            required: boolean;
+        };
+        action: {
+            kind: string;
+            form: string;
+            low: number;
+            high: bigint;
+            required: boolean;
+        };
+        name: {
+            kind: string;
+            form: string;
+            low: number;
+            high: bigint;
+            required: boolean;
+        };
+    };
+    namedPhase: {
+        group: {
+            kind: string;
+            form: string;
+            low: number;
+            high: bigint;
+            required: boolean;
+        };
+        phase: {
+            kind: string;
+            form: string;
+            low: number;
+            high: bigint;
+            required: boolean;
+        };
+        job: {
+            kind: string;
+            form: string;
+            low: number;
+            high: bigint;
+            required: boolean;
+        };
+        task: {
+            kind: string;
+            form: string;
+            low: number;
+            high: bigint;
+            required: boolean;
+        };
+        name: {
+            kind: string;
+            form: string;
+            low: number;
+            high: bigint;
+            required: boolean;
+        };
+    };
+    steal: {
+        from: {
+            kind: string;
+            form: string;
+            low: number;
+            high: bigint;
+            required: boolean;
+        };
+        to: {
+            kind: string;
+            form: string;
+            low: number;
+            high: bigint;
+            required: boolean;
+        };
+        percent: {
+            kind: string;
+            form: string;
+            low: number;
+            high: bigint;
+            required: boolean;
+        };
+        every: {
+            kind: string;
+            form: string;
+            low: number;
+            high: bigint;
+            required: boolean;
+        };
+        until: {
+            kind: string;
+            form: string;
+            low: number;
+            high: bigint;
+            required: boolean;
+        };
+    };
+    cost: {
+        from: {
+            kind: string;
+            form: string;
+            low: number;
+            high: bigint;
+            required: boolean;
+        };
+        to: {
+            kind: string;
+            form: string;
+            low: number;
+            high: bigint;
+            required: boolean;
+        };
+    };
+    job: {
+        at: {
+            kind: string;
+            form: string;
+            low: number;
+            high: bigint;
+            required: boolean;
+        };
+        cost: {
+            kind: string;
+            form: string;
+            low: number;
+            high: bigint;
+            required: boolean;
+        };
+        deadline: {
+            kind: string;
+            form: string;
+            low: number;
+            high: bigint;
+            required: boolean;
+        };
+        then: {
+            kind: string;
+            form: string;
+            low: number;
+            high: bigint;
+            required: boolean;
+        };
+        name: {
+            kind: string;
+            form: string;
+            low: number;
+            high: bigint;
+            required: boolean;
+        };
+    };
+    event: {
+        at: {
+            kind: string;
+            form: string;
+            low: number;
+            high: bigint;
+            required: boolean;
+        };
+        after: {
+            kind: string;
+            form: string;
+            low: number;
+            high: bigint;
+            required: boolean;
+        };
+        do: {
+            kind: string;
+            form: string;
+            low: number;
+            high: bigint;
+            required: boolean;
+        };
+        every: {
+            kind: string;
+            form: string;
+            low: number;
+            high: bigint;
+            required: boolean;
+        };
+        until: {
+            kind: string;
+            form: string;
+            low: number;
+            high: bigint;
+            required: boolean;
+        };
+        name: {
+            kind: string;
+            form: string;
+            low: number;
+            high: bigint;
+            required: boolean;
+        };
+    };
+}>;
+/**
+ * What agc.wasm exports, for those who instantiate it themselves: the calls as agc.h has them. Pointers are places in
+ * `memory` from `__heap_base` on, of which a caller makes as much as it wants by `memory.grow`. What is returned as a
+ * struct in C is written to `answer`.
+ */
+export type Library = {
+    memory: WebAssembly.Memory;
+    __heap_base: WebAssembly.Global;
+    agc_plan_check(plan: bigint): number;
+    agc_step(answer: bigint, words: bigint, sets: number, plan: bigint, request: bigint, fired: bigint, moment: bigint): void;
+    agc_step_trusted(answer: bigint, words: bigint, sets: number, plan: bigint, request: bigint, fired: bigint, moment: bigint): void;
+    agc_begin(words: bigint, sets: number, alarm: number, entries: bigint, entry_count: bigint): number;
+    agc_begin_trusted(words: bigint, sets: number, alarm: number, entries: bigint, entry_count: bigint): number;
+    agc_power_up(answer: bigint, words: bigint, sets: number, entries: bigint, entry_count: bigint, phase_words: bigint): void;
+    agc_power_up_trusted(answer: bigint, words: bigint, sets: number, entries: bigint, entry_count: bigint, phase_words: bigint): void;
+    agc_read_request(text: bigint, length: bigint, request: bigint): number;
+    agc_read_action(text: bigint, length: bigint, action: bigint): number;
+    agc_write_reply(answer: bigint, step: bigint, fired: bigint, text: bigint, room: bigint): void;
+    agc_write_rule(answer: bigint, rule: number, text: bigint, room: bigint): void;
+    agc_write_report(answer: bigint, words: bigint, sets: number, totals: bigint, text: bigint, room: bigint): void;
+    agc_refusal(request: bigint, bounds: bigint): number;
+    agc_pulse(answer: bigint, line: number, key: bigint, key_count: bigint, radar: bigint, radar_count: bigint, requests: bigint): void;
+    agc_clock_check(table: bigint): number;
+    agc_clock_next(answer: bigint, words: bigint, sets: number, table: bigint, clock: bigint, request: bigint): void;
+    agc_clock_next_trusted(answer: bigint, words: bigint, sets: number, table: bigint, clock: bigint, request: bigint): void;
+    agc_clock_served(words: bigint, sets: number, step: bigint, clock: bigint): number;
+    agc_clock_served_trusted(words: bigint, sets: number, step: bigint, clock: bigint): number;
+    agc_clock_told(step: bigint, clock: bigint, event: bigint): number;
+    agc_clear(words: bigint, sets: number): number;
+    agc_check(answer: bigint, words: bigint, sets: number): void;
+    agc_explain(answer: bigint, words: bigint, sets: number): void;
+    agc_job_at(answer: bigint, words: bigint, sets: number, set: number): void;
+    agc_next(answer: bigint, words: bigint, sets: number): void;
+    agc_task_at(answer: bigint, words: bigint, sets: number, place: number): void;
+    agc_phase_at(answer: bigint, words: bigint, sets: number, group: number): void;
+    agc_failreg(answer: bigint, words: bigint, sets: number, place: number): void;
+    agc_scene(words: bigint, sets: number, scene: bigint): number;
+    agc_version(): number;
+    agc_restart(words: bigint, sets: number): number;
+    agc_migrate(words: bigint): number;
+    agc_novac(answer: bigint, words: bigint, sets: number, priority: number, at: number, bank: number): void;
+    agc_novac_trusted(answer: bigint, words: bigint, sets: number, priority: number, at: number, bank: number): void;
+    agc_findvac(answer: bigint, words: bigint, sets: number, priority: number, at: number, bank: number): void;
+    agc_findvac_trusted(answer: bigint, words: bigint, sets: number, priority: number, at: number, bank: number): void;
+    agc_end_of_job(answer: bigint, words: bigint, sets: number): void;
+    agc_end_of_job_trusted(answer: bigint, words: bigint, sets: number): void;
+    agc_job_sleep(answer: bigint, words: bigint, sets: number, at: number): void;
+    agc_job_sleep_trusted(answer: bigint, words: bigint, sets: number, at: number): void;
+    agc_job_wake(answer: bigint, words: bigint, sets: number, at: number): void;
+    agc_job_wake_trusted(answer: bigint, words: bigint, sets: number, at: number): void;
+    agc_prio_change(answer: bigint, words: bigint, sets: number, priority: number): void;
+    agc_prio_change_trusted(answer: bigint, words: bigint, sets: number, priority: number): void;
+    agc_change_job(answer: bigint, words: bigint, sets: number): void;
+    agc_change_job_trusted(answer: bigint, words: bigint, sets: number): void;
+    agc_store(answer: bigint, words: bigint, sets: number, place: number, word: number): void;
+    agc_store_trusted(answer: bigint, words: bigint, sets: number, place: number, word: number): void;
+    agc_running(answer: bigint, words: bigint, sets: number): void;
+    agc_running_trusted(answer: bigint, words: bigint, sets: number): void;
+    agc_list(answer: bigint, words: bigint, sets: number, delay: number, at: number, bank: number): void;
+    agc_list_trusted(answer: bigint, words: bigint, sets: number, delay: number, at: number, bank: number): void;
+    agc_count_time3(answer: bigint, words: bigint, sets: number): void;
+    agc_count_time3_trusted(answer: bigint, words: bigint, sets: number): void;
+    agc_due(answer: bigint, words: bigint, sets: number): void;
+    agc_due_trusted(answer: bigint, words: bigint, sets: number): void;
+    agc_dispatch(answer: bigint, words: bigint, sets: number): void;
+    agc_dispatch_trusted(answer: bigint, words: bigint, sets: number): void;
+    agc_set_phase(words: bigint, sets: number, group: number, phase: number): number;
+    agc_set_phase_trusted(words: bigint, sets: number, group: number, phase: number): number;
+    agc_record_alarm(words: bigint, sets: number, alarm: number): number;
+    agc_record_alarm_trusted(words: bigint, sets: number, alarm: number): number;
+    agc_recover(answer: bigint, words: bigint): void;
+    agc_add(answer: bigint, a: number, b: number): void;
+    agc_negative(answer: bigint, word: number): void;
+    agc_value(answer: bigint, word: number): void;
+};
+export type Bench = {
+    sets?: number;
+    limit?: number;
+    allowance?: number;
+    attends?: number;
+    key?: string | readonly string[];
+    radar?: string | readonly string[];
+    power?: readonly string[];
+    script?: readonly string[];
+    task?: readonly Task[];
+    phase?: readonly Phase[];
+    worker?: readonly Worker[];
+    device?: readonly Device[];
+};
+export type Task = {
+    at: string | number;
+    bank: string | number;
+    action: string | readonly string[];
+};
+export type Phase = {
+    group: number;
+    phase: number;
+    job?: string;
+    task?: string;
+};
+export type Worker = {
+    script: readonly string[];
+};
+export type ExploredWorker = {
+    script: readonly string[];
+    repeat?: boolean;
+};
+export type Device = {
+    line: string;
+    pulses: number;
+};
+export type Scenario = {
+    seconds: number;
+    title?: string;
+    seed?: number;
+    sets?: number;
+    limit?: number;
+    allowance?: number;
+    key?: string | readonly string[];
+    radar?: string | readonly string[];
+    power?: readonly string[];
+    steal?: number;
+    task?: readonly NamedTask[];
+    phase?: readonly NamedPhase[];
+    job?: readonly Job[];
+    event?: readonly Event[];
+};
+export type NamedTask = {
+    at: string | number;
+    bank: string | number;
+    action: string | readonly string[];
+    name?: string;
+};
+export type NamedPhase = {
+    group: number;
+    phase: number;
+    job?: string;
+    task?: string;
+    name?: string;
+};
+export type Steal = {
+    from: number;
+    to: number;
+    percent: number;
+    every?: number;
+    until?: number;
+};
+export type Cost = {
+    from: number;
+    to: number;
+};
+export type Job = {
+    at: string | number;
+    cost: number;
+    deadline?: number;
+    then?: string | readonly string[];
+    name?: string;
+};
+export type Event = {
+    at: number;
+    after?: string;
+    do: string | readonly string[];
+    every?: number;
+    until?: number;
+    name?: string;
+};

@@ -2,6 +2,95 @@
  * The library as agc.h has it. tools/bindings wrote this from agc.h, the tables of keys and the forms of lines.
  */
 
+/**
+ * What agc.wasm exports, for those who instantiate it themselves: the calls as agc.h has them. Pointers are places in
+ * `memory` from `__heap_base` on, of which a caller makes as much as it wants by `memory.grow`. What is returned as a
+ * struct in C is written to `answer`.
+ * @typedef {{
+ *  memory: WebAssembly.Memory, __heap_base: WebAssembly.Global,
+ *  agc_plan_check(plan: bigint): number,
+ *  agc_step(answer: bigint, words: bigint, sets: number, plan: bigint, request: bigint, fired: bigint, moment: bigint): void,
+ *  agc_step_trusted(answer: bigint, words: bigint, sets: number, plan: bigint, request: bigint, fired: bigint, moment: bigint): void,
+ *  agc_begin(words: bigint, sets: number, alarm: number, entries: bigint, entry_count: bigint): number,
+ *  agc_begin_trusted(words: bigint, sets: number, alarm: number, entries: bigint, entry_count: bigint): number,
+ *  agc_power_up(answer: bigint, words: bigint, sets: number, entries: bigint, entry_count: bigint, phase_words: bigint): void,
+ *  agc_power_up_trusted(answer: bigint, words: bigint, sets: number, entries: bigint, entry_count: bigint, phase_words: bigint): void,
+ *  agc_read_request(text: bigint, length: bigint, request: bigint): number,
+ *  agc_read_action(text: bigint, length: bigint, action: bigint): number,
+ *  agc_write_reply(answer: bigint, step: bigint, fired: bigint, text: bigint, room: bigint): void,
+ *  agc_write_rule(answer: bigint, rule: number, text: bigint, room: bigint): void,
+ *  agc_write_report(answer: bigint, words: bigint, sets: number, totals: bigint, text: bigint, room: bigint): void,
+ *  agc_refusal(request: bigint, bounds: bigint): number,
+ *  agc_pulse(answer: bigint, line: number, key: bigint, key_count: bigint, radar: bigint, radar_count: bigint, requests: bigint): void,
+ *  agc_clock_check(table: bigint): number,
+ *  agc_clock_next(answer: bigint, words: bigint, sets: number, table: bigint, clock: bigint, request: bigint): void,
+ *  agc_clock_next_trusted(answer: bigint, words: bigint, sets: number, table: bigint, clock: bigint, request: bigint): void,
+ *  agc_clock_served(words: bigint, sets: number, step: bigint, clock: bigint): number,
+ *  agc_clock_served_trusted(words: bigint, sets: number, step: bigint, clock: bigint): number,
+ *  agc_clock_told(step: bigint, clock: bigint, event: bigint): number,
+ *  agc_clear(words: bigint, sets: number): number,
+ *  agc_check(answer: bigint, words: bigint, sets: number): void,
+ *  agc_explain(answer: bigint, words: bigint, sets: number): void,
+ *  agc_job_at(answer: bigint, words: bigint, sets: number, set: number): void,
+ *  agc_next(answer: bigint, words: bigint, sets: number): void,
+ *  agc_task_at(answer: bigint, words: bigint, sets: number, place: number): void,
+ *  agc_phase_at(answer: bigint, words: bigint, sets: number, group: number): void,
+ *  agc_failreg(answer: bigint, words: bigint, sets: number, place: number): void,
+ *  agc_scene(words: bigint, sets: number, scene: bigint): number,
+ *  agc_version(): number,
+ *  agc_restart(words: bigint, sets: number): number,
+ *  agc_migrate(words: bigint): number,
+ *  agc_novac(answer: bigint, words: bigint, sets: number, priority: number, at: number, bank: number): void,
+ *  agc_novac_trusted(answer: bigint, words: bigint, sets: number, priority: number, at: number, bank: number): void,
+ *  agc_findvac(answer: bigint, words: bigint, sets: number, priority: number, at: number, bank: number): void,
+ *  agc_findvac_trusted(answer: bigint, words: bigint, sets: number, priority: number, at: number, bank: number): void,
+ *  agc_end_of_job(answer: bigint, words: bigint, sets: number): void,
+ *  agc_end_of_job_trusted(answer: bigint, words: bigint, sets: number): void,
+ *  agc_job_sleep(answer: bigint, words: bigint, sets: number, at: number): void,
+ *  agc_job_sleep_trusted(answer: bigint, words: bigint, sets: number, at: number): void,
+ *  agc_job_wake(answer: bigint, words: bigint, sets: number, at: number): void,
+ *  agc_job_wake_trusted(answer: bigint, words: bigint, sets: number, at: number): void,
+ *  agc_prio_change(answer: bigint, words: bigint, sets: number, priority: number): void,
+ *  agc_prio_change_trusted(answer: bigint, words: bigint, sets: number, priority: number): void,
+ *  agc_change_job(answer: bigint, words: bigint, sets: number): void,
+ *  agc_change_job_trusted(answer: bigint, words: bigint, sets: number): void,
+ *  agc_store(answer: bigint, words: bigint, sets: number, place: number, word: number): void,
+ *  agc_store_trusted(answer: bigint, words: bigint, sets: number, place: number, word: number): void,
+ *  agc_running(answer: bigint, words: bigint, sets: number): void,
+ *  agc_running_trusted(answer: bigint, words: bigint, sets: number): void,
+ *  agc_list(answer: bigint, words: bigint, sets: number, delay: number, at: number, bank: number): void,
+ *  agc_list_trusted(answer: bigint, words: bigint, sets: number, delay: number, at: number, bank: number): void,
+ *  agc_count_time3(answer: bigint, words: bigint, sets: number): void,
+ *  agc_count_time3_trusted(answer: bigint, words: bigint, sets: number): void,
+ *  agc_due(answer: bigint, words: bigint, sets: number): void,
+ *  agc_due_trusted(answer: bigint, words: bigint, sets: number): void,
+ *  agc_dispatch(answer: bigint, words: bigint, sets: number): void,
+ *  agc_dispatch_trusted(answer: bigint, words: bigint, sets: number): void,
+ *  agc_set_phase(words: bigint, sets: number, group: number, phase: number): number,
+ *  agc_set_phase_trusted(words: bigint, sets: number, group: number, phase: number): number,
+ *  agc_record_alarm(words: bigint, sets: number, alarm: number): number,
+ *  agc_record_alarm_trusted(words: bigint, sets: number, alarm: number): number,
+ *  agc_recover(answer: bigint, words: bigint): void,
+ *  agc_add(answer: bigint, a: number, b: number): void,
+ *  agc_negative(answer: bigint, word: number): void,
+ *  agc_value(answer: bigint, word: number): void,
+ * }} Library
+ */
+
+/** @typedef {{ sets?: number, limit?: number, allowance?: number, attends?: number, key?: string | readonly string[], radar?: string | readonly string[], power?: readonly string[], script?: readonly string[], task?: readonly Task[], phase?: readonly Phase[], worker?: readonly Worker[], device?: readonly Device[] }} Bench */
+/** @typedef {{ at: string | number, bank: string | number, action: string | readonly string[] }} Task */
+/** @typedef {{ group: number, phase: number, job?: string, task?: string }} Phase */
+/** @typedef {{ script: readonly string[] }} Worker */
+/** @typedef {{ script: readonly string[], repeat?: boolean }} ExploredWorker */
+/** @typedef {{ line: string, pulses: number }} Device */
+/** @typedef {{ seconds: number, title?: string, seed?: number, sets?: number, limit?: number, allowance?: number, key?: string | readonly string[], radar?: string | readonly string[], power?: readonly string[], steal?: number, task?: readonly NamedTask[], phase?: readonly NamedPhase[], job?: readonly Job[], event?: readonly Event[] }} Scenario */
+/** @typedef {{ at: string | number, bank: string | number, action: string | readonly string[], name?: string }} NamedTask */
+/** @typedef {{ group: number, phase: number, job?: string, task?: string, name?: string }} NamedPhase */
+/** @typedef {{ from: number, to: number, percent: number, every?: number, until?: number }} Steal */
+/** @typedef {{ from: number, to: number }} Cost */
+/** @typedef {{ at: string | number, cost: number, deadline?: number, then?: string | readonly string[], name?: string }} Job */
+/** @typedef {{ at: number, after?: string, do: string | readonly string[], every?: number, until?: number, name?: string }} Event */
+
 /** What a call lacked: the first that applies. */
 export const Code = Object.freeze({
   OK: 0,
@@ -136,9 +225,11 @@ export const LAYOUT = Object.freeze({
   AgcTotals: { size: 40, served: 0, alarms_1201: 8, alarms_1202: 16, alarms_1203: 24, restarts: 32 },
   AgcBounds: { size: 24, served: 0, allowance: 8, logged: 16, limit: 20 },
   AgcPhaseEntry: { size: 36, group: 0, phase: 4, job: 8, priority: 12, job_at: 16, job_bank: 20, delay: 24, task_at: 28, task_bank: 32 },
+  AgcPlan: { size: 32, rows: 0, row_count: 8, entries: 16, entry_count: 24 },
   AgcStolen: { size: 20, from: 0, to: 4, percent: 8, every: 12, until: 16 },
   AgcCost: { size: 24, at: 0, hundredths: 4, then: 8, first: 12, count: 16, spread: 20 },
   AgcEvent: { size: 24, at: 0, every: 4, until: 8, first: 12, count: 16, after: 20 },
+  AgcTimetable: { size: 72, lasts: 0, stolen: 8, stolen_count: 16, costs: 24, cost_count: 32, events: 40, event_count: 48, requests: 56, request_count: 64 },
   AgcClock: { size: 72, time: 0, event: 8, asked: 16, looks: 24, left: 28, given: 32, lot: 64 },
 });
 

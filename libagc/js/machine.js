@@ -6,45 +6,101 @@
  * page that carries them within itself, imports this file and awaits `start(bytes)` first.
  *
  * What isn't served is thrown as `AgcError`, with a code and a sentence; the machine is then as it
- * was. What isn't of the right type, or a key that isn't known, is a `TypeError`. agc.h and docs/EMBEDDING.md say what each
- * call means.
- *
- * @typedef {{ at: string | number, bank: string | number, action: string | string[],
- *   name?: string }} PlanTask
- * @typedef {{ group: number, phase: number, job?: string, task?: string, name?: string }} PlanPhase
- * @typedef {{ task?: PlanTask[], phase?: PlanPhase[] }} Plan
- * @typedef {{ at: number, bank: number }} Task
- * @typedef {{ from: number, to: number, percent: number, every?: number, until?: number }} Stolen
- * @typedef {{ at: string | number, cost: number | { from: number, to: number },
- *   then?: string | string[], deadline?: number,
- *   name?: string }} JobCost
- * @typedef {{ at: number, after?: string, do: string | string[], every?: number, until?: number,
- *   name?: string }} TimedEvent
- * @typedef {{ seconds?: number, seed?: number, steal?: number | Stolen[], job?: JobCost[],
- *   event?: TimedEvent[] }} Timetable
- * @typedef {{ number: number, priority: number, at: number, bank: number, asleep: boolean,
- *   area: number, work: number[] }} Job
- * @typedef {{ at: number, bank: number, left: number }} Waiting
- * @typedef {{ running: number, next: number, sets: (Job | null)[], areas: number[],
- *   tasks: Waiting[], phases: number[], codes: number[] }} Scene
- * @typedef {{ served: number, alarms: number[], restarts: number }} Totals
- * @typedef {{ sets: number, plan: Plan, words: number[], moment: number[],
- *   totals: Totals }} MachineState
- * @typedef {{ rule: number, place: number, found: number, wanted: number | null,
- *   text: string }} Finding
- * @typedef {{ 1201?: number, 1202?: number, 1203?: number }} FirstAlarms
- * @typedef {{ timetable: Timetable, at: number[], alarms?: FirstAlarms }} ClockState
- * @typedef {{ served: number | bigint, allowance: number | bigint, logged: number,
- *   limit: number }} Bounds
+ * was. What isn't of the right type, or a key that isn't known, is a `TypeError`. agc.h and
+ * docs/EMBEDDING.md say what each call means. tools/bindings writes agc.d.ts from this file.
  */
-
 import {
   ACTION_KINDS, CODE_TEXTS, Code, DEVICES, FORMS, JOB_KINDS, KEYS, Kind, LAYOUT, LEAVING_KINDS, LISTING_KINDS, NUMBERS,
-  PLACES, REPLY_TEXTS, REQUEST_KINDS, STEP_KINDS,
+  PARTS, PLACES, REPLY_TEXTS, REQUEST_KINDS, STEP_KINDS,
 } from "./library.js";
 import { lineFault, partOf } from "./lines.js";
 
 export { Code, Kind };
+
+/** What agc.wasm exports, for those who instantiate it themselves. @typedef {import("./library.js").Library} Library */
+
+/** What is done when a task fires. @typedef {import("./library.js").NamedTask} PlanTask */
+
+/** What begins again while a restart group is in a phase. @typedef {import("./library.js").NamedPhase} PlanPhase */
+
+/** A plan, as a bench has it. @typedef {{ task?: readonly PlanTask[], phase?: readonly PlanPhase[] }} Plan */
+
+/** A task of the Waitlist. @typedef {{ at: number, bank: number }} Task */
+
+/**
+ * A task that waits, and the centiseconds that are left to it.
+ * @typedef {{ at: number, bank: number, left: number }} Waiting
+ */
+
+/**
+ * A job in a core set; `area` is the number of its VAC area, 1 to 5, or 0.
+ * @typedef {{ number: number, priority: number, at: number, bank: number, asleep: boolean, area: number, work: number[] }} Job
+ */
+
+/**
+ * What words say: who runs and whom a change of job would bring (job numbers, 0 for nobody), the core sets with their
+ * jobs, who owns each VAC area, the tasks that wait, the six phases, and the three codes.
+ * @typedef {{ running: number, next: number, sets: (Job | null)[], areas: number[], tasks: Waiting[], phases: number[],
+ *   codes: number[] }} Scene
+ */
+
+/**
+ * How many requests were served, how many alarms 1201, 1202 and 1203 came, how many eras began.
+ * @typedef {{ served: number, alarms: number[], restarts: number }} Totals
+ */
+
+/**
+ * All of a machine, of which JSON can be made.
+ * @typedef {{ sets: number, plan: Plan, words: number[], moment: number[], totals: Totals }} MachineState
+ */
+
+/**
+ * From one centisecond until just before another, something else takes so many percent of each. With `every` this
+ * repeats at that interval, and last begins at `until` or earlier.
+ * @typedef {import("./library.js").Steal} Stolen
+ */
+
+/**
+ * What a job at an address costs, in centiseconds, or by lot between two such; then `"end"` or `"sleep 04000"`, or several
+ * requests, the last of which is one of these. A clock passes over `deadline`.
+ * @typedef {Omit<import("./library.js").Job, "cost"> & { cost: number | import("./library.js").Cost }} JobCost
+ */
+
+/**
+ * What is asked at a centisecond, and with `every` again, at last at `until`. Where `after` is the name of an event above
+ * it, these count from the first time of that one; where it is "1201", "1202" or "1203", and no event above has that name,
+ * from the first alarm of that code.
+ * @typedef {import("./library.js").Event} TimedEvent
+ */
+
+/**
+ * What a scenario has of time: how many seconds, at most a day, 86400 where it isn't named; the seed of lots, 1 to
+ * 2147483646, where a cost is by lot; percent of each centisecond that something else takes, or rows of it.
+ * @typedef {{ seconds?: number, seed?: number, steal?: number | readonly Stolen[], job?: readonly JobCost[],
+ *   event?: readonly TimedEvent[] }} Timetable
+ */
+
+/**
+ * When the first alarm of each code came, in centiseconds.
+ * @typedef {{ 1201?: number, 1202?: number, 1203?: number }} FirstAlarms
+ */
+
+/**
+ * All of a clock, of which JSON can be made.
+ * @typedef {{ timetable: Timetable, at: number[], alarms?: FirstAlarms }} ClockState
+ */
+
+/**
+ * Why words aren't lawful: the rule that is broken first, the word's place, from 0, what stands there, and what would have
+ * to; null where the other words leave more than one choice.
+ * @typedef {{ rule: number, place: number, found: number, wanted: number | null, text: string }} Finding
+ */
+
+/**
+ * How many requests were served, and how many are at most; how many were since the last era began, and how many are at
+ * most.
+ * @typedef {{ served: number | bigint, allowance: number | bigint, logged: number, limit: number }} Bounds
+ */
 
 /** The release of this module. */
 export const VERSION = "1.0.0";
@@ -53,31 +109,23 @@ export const VERSION = "1.0.0";
 export const WORDS = NUMBERS.WORDS;
 export const PHASE_WORDS = NUMBERS.PHASE_WORDS;
 
-/**
- * What a code says, whatever the number.
- * @param {number} code
- */
+/** What a code says, whatever the number. @param {number} code */
 export function codeText(code) {
   return CODE_TEXTS[code] ?? "no call answers this code";
 }
 
-/**
- * What a kind of reply says, whatever the number.
- * @param {number} kind
- */
+/** What a kind of reply says, whatever the number. @param {number} kind */
 export function replyText(kind) {
   return REPLY_TEXTS[kind] ?? "no reply is of this kind";
 }
 
 /** What was not served. `code` says why, `message` the same as a sentence. */
 export class AgcError extends Error {
-  /**
-   * @param {number} code
-   * @param {string} [sentence]
-   */
+  /** @param {number} code @param {string} [sentence] */
   constructor(code, sentence) {
     super(sentence || codeText(code));
     this.name = "AgcError";
+    /** @readonly */
     this.code = code;
   }
 }
@@ -85,51 +133,54 @@ export class AgcError extends Error {
 /** The name that `AgcError` had. */
 export const Lacking = AgcError;
 
-// The module, and what lies where in its memory behind its own: the words of the machine that was
-// asked last, the words as they were at its last request, a call's numbers and answer, a clock, a text,
-// words from elsewhere, that machine's plan, and behind it that clock's timetable.
-const ROW = LAYOUT.AgcRow.size;
-const ENTRY = LAYOUT.AgcPhaseEntry.size;
+// The module, and what lies where in its memory behind its own: a call's numbers and answer, a clock, a text, words from
+// elsewhere; and behind these the rooms of machines, clocks and plans.
+const { AgcClock: CLOCK, AgcEvent: EVENT, AgcJob: JOB, AgcPlan: PLAN, AgcRequest: REQUEST, AgcScene: SCENE } = LAYOUT;
+const { AgcTimetable: TABLE, AgcWaiting: WAITING } = LAYOUT;
 const SIZE = {
-  ...{ words: 2 * NUMBERS.WORDS, moment: 2 * NUMBERS.WORDS, other: 2 * NUMBERS.WORDS },
-  ...{ phases: 2 * NUMBERS.PHASE_WORDS, answer: 40, text: NUMBERS.REPORT },
-  ...{ fired: NUMBERS.FIRED * LAYOUT.AgcFired.size, request: LAYOUT.AgcRequest.size },
-  ...{ totals: LAYOUT.AgcTotals.size, clock: LAYOUT.AgcClock.size, scene: LAYOUT.AgcScene.size },
-  ...{ bounds: LAYOUT.AgcBounds.size, pulse: NUMBERS.ACTIONS * LAYOUT.AgcRequest.size, actions: 160 },
+  other: 2 * WORDS, moment: 2 * WORDS, phases: 2 * PHASE_WORDS, answer: 40, text: NUMBERS.REPORT,
+  fired: NUMBERS.FIRED * LAYOUT.AgcFired.size, request: REQUEST.size, totals: LAYOUT.AgcTotals.size, clock: CLOCK.size,
+  scene: SCENE.size, bounds: LAYOUT.AgcBounds.size, pulse: NUMBERS.ACTIONS * REQUEST.size,
+  actions: 2 * NUMBERS.ACTIONS * REQUEST.size,
 };
-const { AgcJob: JOB, AgcScene: SCENE, AgcWaiting: WAITING } = LAYOUT;
 const PAGE = 65536;
+const MOST = 0xffffffff;
 
 /** @type {any} */
 let calls = null;
-/** @type {Record<string, number>} */
-const at = {};
-/** @type {Record<string, bigint>} */
-const to = {};
+/** @type {Record<keyof typeof SIZE, number>} */
+const at = /** @type {any} */ ({});
+/** @type {Record<keyof typeof SIZE, bigint>} */
+const to = /** @type {any} */ ({});
 /** @type {Uint8Array} */
 let bytes;
 /** @type {Uint16Array} */
 let halves;
 /** @type {Uint32Array} */
 let numbers;
-/** @type {any} */
-let asked = null;
-/** @type {any} */
-let timed = null;
-
+/** Where the part of the memory begins that no room has had. */
+let unused = 0;
+/** The rooms that their owners have left, by size. @type {Map<number, number[]>} */
+const left = new Map();
+/** @type {FinalizationRegistry<[number, number]>} */
+const owners = new FinalizationRegistry(([size, place]) => left.get(size)?.push(place));
 const decoder = new TextDecoder();
 
 /**
- * Makes the memory as long as this. A module with a 64-bit memory counts pages by a BigInt.
- * @param {number} end
+ * A place for so many bytes that none has had, in a memory that is made longer, at once for several, where it has to be.
+ * A module with a 64-bit memory counts pages by a BigInt.
+ * @param {number} size
  */
-function reach(end) {
-  const lacking = Math.ceil((end - calls.memory.buffer.byteLength) / PAGE);
+function freshRoom(size) {
+  const place = unused;
+  unused += size;
+  const lacking = Math.ceil((unused - calls.memory.buffer.byteLength) / PAGE);
   if (lacking > 0) {
+    const pages = Math.max(lacking, 16);
     try {
-      calls.memory.grow(lacking);
+      calls.memory.grow(pages);
     } catch {
-      calls.memory.grow(BigInt(lacking));
+      calls.memory.grow(BigInt(pages));
     }
   }
   if (bytes === undefined || bytes.buffer !== calls.memory.buffer) {
@@ -137,63 +188,59 @@ function reach(end) {
     halves = new Uint16Array(calls.memory.buffer);
     numbers = new Uint32Array(calls.memory.buffer);
   }
+  return place;
+}
+
+/** A place for so many bytes, as long as its owner is there. @param {object} owner @param {number} bytesWanted */
+function roomFor(owner, bytesWanted) {
+  const size = (bytesWanted + 7) & ~7;
+  if (!left.has(size)) left.set(size, []);
+  const place = left.get(size)?.pop() ?? freshRoom(size);
+  owners.register(owner, [size, place]);
+  return place;
 }
 
 /**
- * Takes the module agc.wasm, as bytes or compiled. `agc.js` has done it.
+ * Takes the module agc.wasm, as bytes or compiled, unless one is there: `agc.js` has done it.
  * @param {BufferSource | WebAssembly.Module} source
+ * @returns {Promise<void>}
  */
 export async function start(source) {
   const made = await WebAssembly.instantiate(/** @type {any} */ (source), {});
-  leave();
+  if (calls !== null) return;
   calls = ("instance" in made ? /** @type {any} */ (made).instance : made).exports;
-  let place = (Number(calls.__heap_base.value ?? calls.__heap_base) + 7) & ~7;
-  for (const [name, size] of Object.entries(SIZE)) {
-    at[name] = place;
-    to[name] = BigInt(place);
-    place += (size + 7) & ~7;
+  unused = (Number(calls.__heap_base.value ?? calls.__heap_base) + 7) & ~7;
+  for (const name of /** @type {(keyof typeof SIZE)[]} */ (Object.keys(SIZE))) {
+    at[name] = freshRoom((SIZE[name] + 7) & ~7);
+    to[name] = BigInt(at[name]);
   }
-  [at.plan, to.plan] = [place, BigInt(place)];
-  reach(place);
 }
 
-/**
- * What was given, as a message quotes it.
- * @param {unknown} given
- */
+function isStarted() {
+  if (calls === null) throw new TypeError("the module isn't there yet: await start(bytes)");
+}
+
+/** What was given, as a message quotes it. @param {unknown} given */
 function shown(given) {
   return typeof given === "object" || typeof given === "string" ? JSON.stringify(given) : String(given);
 }
 
-/**
- * Throws where a thing isn't what it has to be.
- * @param {Function} kind
- * @param {string} what
- * @param {unknown} given
- */
+/** Throws where a thing isn't what it has to be. @param {Function} kind @param {string} what @param {unknown} given */
 function isOf(kind, what, given) {
   if (given instanceof /** @type {any} */ (kind)) return;
   throw new TypeError(`${what} has to be a ${kind.name}, and this is ${shown(given)}`);
 }
 
-/**
- * A number as the library takes it: one that has more than 32 bits is out of every range.
- * @param {number} number
- */
+/** A number as the library takes it: one that has more than 32 bits is out of every range. @param {number} number */
 function whole(number) {
-  if (!Number.isInteger(number)) {
-    throw new TypeError(`a number has to be an integer, and this is ${shown(number)}`);
-  }
-  return number >= 0 && number <= 0xffffffff ? number : 0xffffffff;
+  if (!Number.isInteger(number)) throw new TypeError(`a number has to be an integer, and this is ${shown(number)}`);
+  return number >= 0 && number <= MOST ? number : MOST;
 }
 
 /**
- * Throws where what is given isn't an object with some of these keys and no others, and all that
- * are wanted. What is undefined isn't given.
- * @param {string} what
- * @param {any} given
- * @param {string[]} keys
- * @param {string[]} [wanted]
+ * Throws where what is given isn't an object with some of these keys and no others, and all that are wanted. What is
+ * undefined isn't given.
+ * @param {string} what @param {any} given @param {string[]} keys @param {string[]} [wanted]
  */
 function known(what, given, keys, wanted = []) {
   if (typeof given !== "object" || given === null || Array.isArray(given)) {
@@ -208,12 +255,40 @@ function known(what, given, keys, wanted = []) {
 }
 
 /**
- * The rows of a list.
- * @template T
- * @param {string} what
- * @param {T[] | undefined} given
- * @returns {T[]}
+ * Throws where a number of a table, or an address or a word, is out of its range.
+ * @param {string} what @param {any} given @param {keyof typeof KEYS} level @param {number} code
  */
+function inRange(what, given, level, code) {
+  for (const [name, { kind, form, low, high }] of Object.entries(KEYS[level])) {
+    const [it, part] = [given[name], Object.values(PARTS).find((one) => one.name === form)];
+    if (it !== undefined && kind === "integer" && !(it instanceof Object) && (whole(it) < low || it > high || it < 0)) {
+      throw new AgcError(code, `${what}: ${name} is ${it}, and may be ${low} to ${high}`);
+    }
+    if (it !== undefined && part !== undefined && (octal(it) < part.low || octal(it) > part.high)) {
+      throw new AgcError(code, `${what}, ${name}: ${shown(it)}: ${part.sentence}`);
+    }
+    const count = [it].flat().length;
+    if (it !== undefined && kind === "oneOrMore" && (count < low || count > high)) {
+      throw new AgcError(code, `${what}: ${name} has to have ${low} to ${high} lines, and has ${count}`);
+    }
+  }
+}
+
+/**
+ * Throws where a table hasn't the keys of this level alone, with all that are required, and numbers in their ranges.
+ * @param {string} what @param {any} given @param {keyof typeof KEYS} level
+ */
+function hasKeys(what, given, level) {
+  const keys = Object.entries(KEYS[level]);
+  known(what, given, keys.map(([name]) => name), keys.flatMap(([name, it]) => (it.required ? [name] : [])));
+  inRange(what, given, level, ["namedTask", "namedPhase"].includes(level) ? Code.PLAN_RANGE : Code.TIME_RANGE);
+}
+
+// What a timetable has, and what documents have at all, of which each may stand for a plan or a timetable.
+const TIMES = Object.keys(KEYS.scenario).filter((it) => !(it in KEYS.bench) && it !== "title");
+const DOCUMENT = [...new Set([...Object.keys(KEYS.bench), ...Object.keys(KEYS.scenario)])];
+
+/** The rows of a list. @template T @param {string} what @param {readonly T[] | undefined} given @returns {readonly T[]} */
 function rowsOf(what, given) {
   if (given === undefined) return [];
   if (Array.isArray(given)) return given;
@@ -221,51 +296,49 @@ function rowsOf(what, given) {
 }
 
 /**
- * The number, from 1, of the first row with which so many rows lack something: more rows never lack
- * less.
- * @param {(count: number) => boolean} lacks
- * @param {number} count
+ * Puts lists of rows into a room of their owner's, behind the struct that a call takes of them, whose first list is at
+ * `first`. Returns the struct's place.
+ * @param {object} owner @param {number} first @param {number[][][]} lists
  */
-function firstBad(lacks, count) {
-  let [low, high] = [1, count];
-  while (low < high) {
-    const middle = Math.floor((low + high) / 2);
-    if (lacks(middle)) high = middle;
-    else low = middle + 1;
+function lend(owner, first, lists) {
+  const all = lists.flat(2);
+  const head = first + 16 * lists.length;
+  const place = roomFor(owner, head + 4 * all.length);
+  let from = place + head;
+  numbers.set(all, from / 4);
+  for (const [k, rows] of lists.entries()) {
+    numbers.set([from, 0, rows.length, 0], (place + first) / 4 + 4 * k);
+    from += 4 * rows.flat().length;
   }
-  return low;
-}
-
-// What a timetable has, and what documents have at all, of which each may stand for a plan or a timetable.
-const TIMES = ["seconds", "seed", "steal", "job", "event"];
-const DOCUMENT = [...new Set([...Object.keys(KEYS.bench), ...Object.keys(KEYS.scenario)])];
-
-/**
- * Throws where a table hasn't the keys of this level alone, with all that are required.
- * @param {string} what
- * @param {any} given
- * @param {keyof typeof KEYS} level
- */
-function hasKeys(what, given, level) {
-  const keys = Object.entries(KEYS[level]);
-  known(what, given, keys.map(([name]) => name), keys.flatMap(([name, it]) => (it.required ? [name] : [])));
+  return place;
 }
 
 /**
- * A word or an address: a number, or its five octal digits.
- * @param {number | string} given
+ * Throws what a call finds lacking in a struct of lists, and which row it is: the first with which so many rows of its list,
+ * without those of the other lists that have a name, lack it.
+ * @param {(lent: bigint) => number} call @param {number} lent @param {Record<string, number>} counts where each list's is
  */
+function look(call, lent, counts) {
+  const code = call(BigInt(lent));
+  const lists = Object.entries(counts).map(([name, at]) => ({ name, at: (lent + at) / 4, all: numbers[(lent + at) / 4] }));
+  for (const { name, at, all } of code === Code.OK ? [] : lists) {
+    for (const it of lists) numbers[it.at] = 0;
+    while (numbers[at]++ < all) {
+      if (call(BigInt(lent)) === code) throw new AgcError(code, `${name} ${numbers[at]}: ${codeText(code)}`);
+    }
+  }
+}
+
+/** A word or an address: a number, or its five octal digits. @param {number | string} given */
 function octal(given) {
   if (typeof given === "number") return whole(given);
-  if (typeof given !== "string") {
-    throw new TypeError(`a word has to be a number or octal digits, and this is ${shown(given)}`);
-  }
-  return /^[0-7]{5}$/.test(given) ? parseInt(given, 8) : 0xffffffff;
+  if (typeof given === "string") return /^[0-7]{5}$/.test(given) ? parseInt(given, 8) : MOST;
+  throw new TypeError(`a word has to be a number or octal digits, and this is ${shown(given)}`);
 }
 
 /**
- * Writes a line into the module's memory: of one that is too long a part, and for what isn't ASCII
- * a byte that isn't. Neither spells anything.
+ * Writes a line into the module's memory: of one that is too long a part, and for what isn't ASCII a byte that isn't.
+ * Neither spells anything.
  * @param {string} line
  */
 function put(line) {
@@ -274,39 +347,36 @@ function put(line) {
   return BigInt(length);
 }
 
-const NAMES = [...FORMS.keys()];
-
-/**
- * The text of so many bytes that a call has written.
- * @param {number} length
- */
-function got(length) {
-  return decoder.decode(bytes.subarray(at.text, at.text + length));
-}
-
-/**
- * The rule of lawful words that has this number, as a sentence.
- * @param {number} rule
- */
-function ruleText(rule) {
-  calls.agc_write_rule(to.answer, rule, to.text, BigInt(SIZE.text));
-  served(numbers[at.answer / 4]);
-  return got(numbers[at.answer / 4 + 1]);
-}
-
-/**
- * Throws the code of a call that was not served.
- * @param {number} code
- */
+/** Throws the code of a call that was not served. @param {number} code */
 function served(code) {
   if (code !== Code.OK) throw new AgcError(code);
 }
 
+/** The text that a call has written, whose answer is there. @param {number} place */
+function textAt(place) {
+  served(numbers[place / 4]);
+  return decoder.decode(bytes.subarray(at.text, at.text + numbers[place / 4 + 1]));
+}
+
 /**
- * Throws what isn't served of a request, and which of its numbers is out of its range.
- * @param {number} code
- * @param {string} name
- * @param {number[]} given
+ * So many numbers of a memory, from the one with this number on.
+ * @param {Uint8Array | Uint16Array | Uint32Array} memory @param {number} from @param {number} count
+ */
+function taken(memory, from, count) {
+  // (a list that grows is made faster than one of a part of the memory)
+  const found = [];
+  for (let k = from; k < from + count; k++) found.push(memory[k]);
+  return found;
+}
+
+/** So many numbers of 32 bits that are in the memory, from a place on. @param {number} place @param {number} count */
+function numbersAt(place, count) {
+  return taken(numbers, place / 4, count);
+}
+
+/**
+ * Throws what isn't served of a request, and which number is out of its range.
+ * @param {number} code @param {string} name @param {number[]} given
  */
 function rangeFault(code, name, given) {
   const letters = FORMS.get(name)?.letters ?? "";
@@ -317,67 +387,53 @@ function rangeFault(code, name, given) {
   throw new AgcError(code, `${what} is ${is}${digits === 0 ? "" : " (octal)"}, and may be ${least} to ${most}`);
 }
 
+const NAMES = [...FORMS.keys()];
+
 /**
  * Reads a line of one of these kinds into the place for a request, by the call that reads such lines.
- * @param {Function} call
- * @param {string} line
- * @param {string[]} kinds
- * @param {string} [where]
+ * @param {Function} call @param {string} line @param {string[]} kinds @param {string} [where]
  */
 function read(call, line, kinds, where = "") {
-  if (typeof line !== "string") {
-    throw new TypeError(`${where}a line has to be a string, and this is ${shown(line)}`);
-  }
+  if (typeof line !== "string") throw new TypeError(`${where}a line has to be a string, and this is ${shown(line)}`);
   if (call(to.text, put(line), to.request) === Code.OK && kinds.includes(NAMES[numbers[at.request / 4]])) return;
   throw new AgcError(Code.NOT_SPELLED, `${where}${JSON.stringify(line)}: ${lineFault(line, kinds)}`);
 }
 
 /**
- * The kind and the numbers of an action, which has to be of one of these kinds.
- * @param {string} line
- * @param {string[]} kinds
- * @param {string} where
+ * The kind and the numbers of a line, as `read` reads it.
+ * @param {Function} call @param {string} line @param {string[]} kinds @param {string} where
  */
-function action(line, kinds, where) {
-  read(calls.agc_read_action, line, kinds, where);
-  return numbers.slice(at.request / 4, at.request / 4 + 4);
+function lineOf(call, line, kinds, where) {
+  read(call, line, kinds, where);
+  return numbersAt(at.request, 4);
 }
 
-/**
- * The numbers of a plan's row.
- * @param {PlanTask} it
- * @param {number} k
- */
+/** The actions of a list, one line or several. @param {string | readonly string[]} given @param {string} where */
+function actionsOf(given, where) {
+  return [given].flat().map((line, k) =>
+    lineOf(calls.agc_read_action, line, ACTION_KINDS, `${where}, action ${k + 1}: `));
+}
+
+/** The numbers of a plan's row. @param {PlanTask} it @param {number} k */
 function rowOf(it, k) {
   const what = `task ${k + 1} of the plan`;
   hasKeys(what, it, "namedTask");
-  const row = new Uint32Array(ROW / 4);
-  const actions = Array.isArray(it.action) ? it.action : [it.action];
-  if (actions.length < 1 || actions.length > NUMBERS.ACTIONS) {
-    throw new AgcError(Code.PLAN_RANGE, `${what} has to have one to four actions, and has ${actions.length}`);
-  }
-  row.set([octal(it.at), octal(it.bank)]);
-  actions.forEach((line, j) => row.set(action(line, ACTION_KINDS, `${what}, action ${j + 1}: `), 2 + 4 * j));
-  return row;
+  const row = [octal(it.at), octal(it.bank), ...actionsOf(it.action, what).flat()];
+  return [...row, ...new Array(LAYOUT.AgcRow.size / 4 - row.length).fill(0)];
 }
 
-/**
- * The numbers of a plan's entry.
- * @param {PlanPhase} it
- * @param {number} k
- */
+/** The numbers of a plan's entry. @param {PlanPhase} it @param {number} k */
 function entryOf(it, k) {
   const what = `phase ${k + 1} of the plan`;
   hasKeys(what, it, "namedPhase");
-  const entry = new Uint32Array(ENTRY / 4);
-  entry.set([whole(it.group), whole(it.phase)]);
-  if (it.job !== undefined) entry.set(action(it.job, JOB_KINDS, `${what}, job: `), 2);
-  if (it.task !== undefined) entry.set(action(it.task, LISTING_KINDS, `${what}, task: `).subarray(1), 6);
-  return entry;
+  const none = [0, 0, 0, 0];
+  const job = it.job === undefined ? none : lineOf(calls.agc_read_action, it.job, JOB_KINDS, `${what}, job: `);
+  const task = it.task === undefined ? none : lineOf(calls.agc_read_action, it.task, LISTING_KINDS, `${what}, task: `);
+  return [whole(it.group), whole(it.phase), ...job, ...task.slice(1)];
 }
 
-/** What a plan's rows and entries are in the module's memory, one behind the other. */
-class Lent {
+/** A plan's rows and entries in the module's memory. */
+class LentPlan {
   /** @param {Plan} plan */
   constructor(plan) {
     known("a plan", plan, DOCUMENT);
@@ -385,54 +441,25 @@ class Lent {
     const entries = rowsOf("phase", plan.phase).map(entryOf);
     /** The plan as it was given. */
     this.given = structuredClone({ task: plan.task ?? [], phase: plan.phase ?? [] });
-    this.numbers = new Uint32Array((rows.length * ROW + entries.length * ENTRY) / 4);
-    rows.forEach((it, k) => this.numbers.set(it, (k * ROW) / 4));
-    entries.forEach((it, k) => this.numbers.set(it, (rows.length * ROW + k * ENTRY) / 4));
-    this.rows = to.plan;
-    this.rowCount = BigInt(rows.length);
-    this.entries = to.plan + BigInt(rows.length * ROW);
-    this.entryCount = BigInt(entries.length);
-    this.lend();
-    const code = this.#lacks(rows.length, entries.length);
-    if (code === Code.OK) return;
-    const inRows = this.#lacks(rows.length, 0) === code;
-    const number = inRows ? firstBad((count) => this.#lacks(count, 0) === code, rows.length)
-      : firstBad((count) => this.#lacks(0, count) === code, entries.length);
-    throw new AgcError(code, `${inRows ? "task" : "phase"} ${number}: ${codeText(code)}`);
-  }
-
-  /**
-   * The code of the first rows and entries alone.
-   * @param {number} rows
-   * @param {number} entries
-   */
-  #lacks(rows, entries) {
-    return calls.agc_plan_check(this.rows, BigInt(rows), this.entries, BigInt(entries));
-  }
-
-  /** Writes the plan to its place. */
-  lend() {
-    reach(at.plan + this.numbers.byteLength);
-    numbers.set(this.numbers, at.plan / 4);
+    const place = lend(this, PLAN.rows, [rows, entries]);
+    look(calls.agc_plan_check, place, { task: PLAN.row_count, phase: PLAN.entry_count });
+    this.lent = BigInt(place);
+    /** Where the entries are, and how many. */
+    this.entries = [BigInt(numbers[(place + PLAN.entries) / 4]), BigInt(entries.length)];
   }
 }
 
 /** What a machine replies to a request. */
 export class Step {
-  /**
-   * @param {number} kind
-   * @param {number} number
-   * @param {Task[]} fired
-   * @param {number} action
-   */
+  /** @param {number} kind @param {number} number @param {Task[]} fired @param {number} action */
   constructor(kind, number, fired, action) {
-    /** The kind: `Kind` has them. */
+    /** The kind, of `Kind`. @readonly */
     this.kind = kind;
-    /** The job's number, or the alarm, as 0o1201; else 0. */
+    /** The job's number, or the alarm, as 0o1201; else 0. @readonly */
     this.number = number;
-    /** The tasks that fired, in order. */
+    /** The tasks that fired, in order. @readonly */
     this.fired = fired;
-    /** Which action, 1 to 4, of the last of them raised the alarm; 0 where none did. */
+    /** Which action, 1 to 4, of the last of them raised the alarm; 0 where none did. @readonly */
     this.action = action;
   }
 
@@ -448,12 +475,11 @@ export class Step {
 
   /** The line that `agc` writes. */
   get text() {
-    numbers.set([0, this.kind, this.number, this.fired.length, this.action], at.answer / 4);
+    putStep(this);
     this.fired.slice(0, NUMBERS.FIRED).forEach((it, k) => numbers.set([it.at, it.bank], at.fired / 4 + 2 * k));
     // (what is written tells of itself by the request's place, which is free)
     calls.agc_write_reply(to.request, to.answer, to.fired, to.text, BigInt(SIZE.text));
-    served(numbers[at.request / 4]);
-    return got(numbers[at.request / 4 + 1] - 1);
+    return textAt(at.request).slice(0, -1);
   }
 
   toString() {
@@ -461,11 +487,20 @@ export class Step {
   }
 }
 
-/** Saves what stands in the module's memory of the machine that was asked last, and of its clock. */
-let leave = () => {};
+/** Writes a step to the place of an answer. @param {Step} step */
+function putStep({ kind, number, fired, action }) {
+  numbers.set([Code.OK, kind, number, fired.length, action], at.answer / 4);
+}
 
-/** Saves the clock that is in the module's memory. */
-let leaveClock = () => {};
+/** The reply that a step has written. */
+function stepAt() {
+  const place = at.answer / 4;
+  const fired = [];
+  for (let k = 0; k < numbers[place + 3]; k++) {
+    fired.push({ at: numbers[at.fired / 4 + 2 * k], bank: numbers[at.fired / 4 + 2 * k + 1] });
+  }
+  return new Step(numbers[place + 1], numbers[place + 2], fired, numbers[place + 4]);
+}
 
 /**
  * A machine: its words, and the plan by which it goes on after an alarm.
@@ -476,99 +511,55 @@ let leaveClock = () => {};
  */
 export class Machine {
   #sets = 7;
-  /** @type {Lent} */
+  /** @type {LentPlan} */
   #plan;
-  #words = new Uint16Array(WORDS);
-  #moment = new Uint16Array(WORDS);
+  // (the words, and behind them those of the moment)
+  #place = 0;
+  #words = 0n;
+  #moment = 0n;
   /** @type {Totals} */
   #totals = { served: 0, alarms: [0, 0, 0], restarts: 0 };
 
-  static {
-    leave = () => {
-      leaveClock();
-      if (asked !== null) asked.#leave();
-      asked = null;
-    };
-  }
-
-  /**
-   * @param {{ sets?: number, plan?: Plan, power?: (number | string)[],
-   *   words?: ArrayLike<number> }} given
-   */
+  /** @param {{ sets?: number, plan?: Plan, power?: readonly (number | string)[], words?: ArrayLike<number> }} given */
   constructor(given = {}) {
     known("a machine", given, ["sets", "plan", "power", "words"]);
+    isStarted();
     const { sets, plan = {}, power, words } = given;
-    if (calls === null) throw new TypeError("the module isn't there yet: await start(bytes)");
-    leave();
-    this.#sets = whole(sets ?? setsOf(words?.length));
-    this.#plan = new Lent(plan);
+    inRange("a machine", { sets }, "bench", Code.NO_SUCH_SETS);
+    this.#sets = sets ?? setsOf(words ?? []);
+    this.#plan = plan instanceof LentPlan ? plan : new LentPlan(plan);
+    this.#place = roomFor(this, 4 * WORDS);
+    [this.#words, this.#moment] = [BigInt(this.#place), BigInt(this.#place + 2 * WORDS)];
     if (words !== undefined) {
-      this.#take(words);
+      this.#take(counted(words, sizeOf(this.#sets)));
     } else if (power === undefined) {
-      served(calls.agc_clear(to.words, this.#sets));
+      served(calls.agc_clear(this.#words, this.#sets));
     } else {
-      this.#powerUp(power);
+      this.#powerUp(counted(power, PHASE_WORDS));
     }
-    halves.copyWithin(at.moment / 2, at.words / 2, at.words / 2 + WORDS);
-    asked = this;
+    bytes.copyWithin(this.#place + 2 * WORDS, this.#place, this.#place + 2 * WORDS);
   }
 
-  /**
-   * Begins with words from elsewhere: whether a step may be asked on them is tried on a copy.
-   * @param {ArrayLike<number>} words
-   */
-  #take(words) {
-    const found = counted(words, this.#size);
-    halves.set(found, at.words / 2);
+  /** Begins with words from elsewhere: whether a step may be asked on them is tried first. @param {number[]} found */
+  #take(found) {
+    halves.set(found, this.#place / 2);
     this.#spell("change", []);
     this.#step(calls.agc_step);
     // (a step that isn't served leaves the words)
-    lawful(numbers[at.answer / 4], to.words, this.#sets);
-    halves.set(found, at.words / 2);
+    lawful(numbers[at.answer / 4], this.#words, this.#sets);
+    halves.set(found, this.#place / 2);
   }
 
-  /** @param {(number | string)[]} power */
-  #powerUp(power) {
-    const found = this.#numbers(Array.from(power, octal), PHASE_WORDS);
-    halves.set(found.map((it) => Math.min(it, 0xffff)), at.phases / 2);
-    const plan = this.#plan;
-    calls.agc_power_up(to.answer, to.words, this.#sets, plan.entries, plan.entryCount, to.phases);
+  /** @param {number[]} found */
+  #powerUp(found) {
+    halves.set(found, at.phases / 2);
+    calls.agc_power_up(to.answer, this.#words, this.#sets, ...this.#plan.entries, to.phases);
     served(numbers[at.answer / 4]);
   }
 
   /**
-   * So many numbers.
-   * @param {number[]} found
-   * @param {number} size
-   */
-  #numbers(found, size) {
-    if (found.length === size) return found;
-    const counts = `there have to be ${size} words, and these are ${found.length}`;
-    throw new AgcError(Code.NOT_WORDS, counts);
-  }
-
-  get #size() {
-    return sizeOf(this.#sets);
-  }
-
-  #leave() {
-    this.#words.set(halves.subarray(at.words / 2, at.words / 2 + WORDS));
-    this.#moment.set(halves.subarray(at.moment / 2, at.moment / 2 + WORDS));
-  }
-
-  /** Puts the words, the moment and the plan into the module's memory. */
-  #enter() {
-    leave();
-    this.#plan.lend();
-    halves.set(this.#words, at.words / 2);
-    halves.set(this.#moment, at.moment / 2);
-    asked = this;
-  }
-
-  /**
    * Writes a request by its name and numbers, or by its line, to its place.
-   * @param {string} request
-   * @param {number[]} given
+   * @param {string} request @param {number[]} given
    */
   #spell(request, given) {
     const form = FORMS.get(request);
@@ -579,19 +570,13 @@ export class Machine {
     } else if (given.length === 0) {
       read(calls.agc_read_request, request, REQUEST_KINDS);
     } else {
-      const told = `${shown(request)}: no request of this name has ${given.length} numbers`;
-      throw new AgcError(Code.NOT_SPELLED, told);
+      throw new AgcError(Code.NOT_SPELLED, `${shown(request)}: no request of this name has ${given.length} numbers`);
     }
   }
 
-  /**
-   * One of the two calls of a step.
-   * @param {Function} call
-   */
+  /** One of the two calls of a step. @param {Function} call */
   #step(call) {
-    const { answer, words, request, fired, moment } = to;
-    const { rows, rowCount, entries, entryCount } = this.#plan;
-    call(answer, words, this.#sets, rows, rowCount, entries, entryCount, request, fired, moment);
+    call(to.answer, this.#words, this.#sets, this.#plan.lent, to.request, to.fired, this.#moment);
   }
 
   /**
@@ -603,23 +588,12 @@ export class Machine {
    * @returns {Step}
    */
   ask(request, ...given) {
-    if (asked !== this) this.#enter();
     if (request instanceof Asked) this.#spell(request.name, request.numbers);
     else this.#spell(request, given);
     this.#step(calls.agc_step_trusted);
     if (numbers[at.answer / 4] !== Code.OK) rangeFault(numbers[at.answer / 4], request.toString(), given);
     this.#count();
-    return this.#reply();
-  }
-
-  /** The reply that a step has written. */
-  #reply() {
-    const place = at.answer / 4;
-    const fired = [];
-    for (let k = 0; k < numbers[place + 3]; k++) {
-      fired.push({ at: numbers[at.fired / 4 + 2 * k], bank: numbers[at.fired / 4 + 2 * k + 1] });
-    }
-    return new Step(numbers[place + 1], numbers[place + 2], fired, numbers[place + 4]);
+    return stepAt();
   }
 
   /** Counts the reply that a step has written. */
@@ -638,6 +612,7 @@ export class Machine {
    * @param {Clock} clock
    * @param {number} centiseconds
    * @param {(asked: Asked, step: Step, time: number) => unknown} [row]
+   * @returns {number}
    */
   run(clock, centiseconds, row) {
     isOf(Clock, "what a machine runs by", clock);
@@ -646,23 +621,24 @@ export class Machine {
     }
     const end = clock.time + whole(centiseconds);
     for (let count = 0; ; count++) {
-      if (asked !== this) this.#enter();
-      if (!clock.give(this, end)) return count;
-      const request = row && Asked.read();
+      if (!clock.give(this.#words, this.#sets, end)) return count;
+      const request = row && askedAt();
       this.#step(calls.agc_step_trusted);
       this.#count();
-      clock.take(this);
-      if (row && request && row(request, this.#reply(), clock.time) === false) return count + 1;
+      clock.take(this.#words, this.#sets);
+      if (row && request && row(request, stepAt(), clock.time) === false) return count + 1;
     }
   }
 
-  /**
-   * Puts this machine into the module's memory, for a clock: where its plan ends there.
-   * @returns {number}
-   */
-  enter() {
-    if (asked !== this) this.#enter();
-    return at.plan + this.#plan.numbers.byteLength;
+  /** The next request of a clock for this machine. @internal @param {Clock} clock */
+  next(clock) {
+    return clock.give(this.#words, this.#sets, MOST) ? askedAt() : null;
+  }
+
+  /** Tells a clock what came of a request. @internal @param {Clock} clock @param {Step} step */
+  tell(clock, step) {
+    putStep(step);
+    clock.take(this.#words, this.#sets);
   }
 
   /** Who runs, and how many jobs, tasks and alarms there are. */
@@ -680,41 +656,33 @@ export class Machine {
 
   /** The words as they are now: 132 with seven core sets, 144 with eight. */
   get words() {
-    return asked === this
-      ? halves.slice(at.words / 2, at.words / 2 + this.#size)
-      : this.#words.slice(0, this.#size);
+    return halves.slice(this.#place / 2, this.#place / 2 + sizeOf(this.#sets));
   }
 
   /** The words as they were when the last request was answered: at an alarm, before the restart. */
   get moment() {
-    return asked === this
-      ? halves.slice(at.moment / 2, at.moment / 2 + this.#size)
-      : this.#moment.slice(0, this.#size);
+    const place = this.#place / 2 + WORDS;
+    return halves.slice(place, place + sizeOf(this.#sets));
   }
 
-  /** How many requests were served, alarms 1201, 1202 and 1203 came, and eras began. */
+  /** How many requests were served, alarms 1201, 1202 and 1203 came, and eras began. @returns {Totals} */
   get totals() {
     return { ...this.#totals, alarms: [...this.#totals.alarms] };
   }
 
-  /** What the words say, as `sceneOf` has it. */
+  /** What the words say, as `sceneOf` has it. @returns {Scene} */
   scene() {
-    if (asked === this) return sceneAt(to.words, this.#sets);
-    halves.set(this.#words, at.other / 2);
-    return sceneAt(to.other, this.#sets);
+    return sceneAt(this.#words, this.#sets);
   }
 
-  /** All of it, of which JSON can be made, for `Machine.of`. */
+  /** All of it, of which JSON can be made, for `Machine.of`. @returns {MachineState} */
   get state() {
     const plan = structuredClone(this.#plan.given);
     const [words, moment] = [Array.from(this.words), Array.from(this.moment)];
     return { sets: this.#sets, plan, words, moment, totals: this.totals };
   }
 
-  /**
-   * A machine of what `state` told. Its words are looked at as those from elsewhere are.
-   * @param {MachineState} state
-   */
+  /** A machine of what `state` told. Its words are looked at as those from elsewhere are. @param {MachineState} state */
   static of(state) {
     const keys = ["sets", "plan", "words", "moment", "totals"];
     known("a machine's state", state, keys, keys);
@@ -723,32 +691,26 @@ export class Machine {
     if ([count, ...alarms, restarts].some((it) => !(Number.isSafeInteger(it) && it >= 0))) {
       throw new AgcError(Code.OUT_OF_RANGE, "a count has to be an integer, 0 or more");
     }
-    checked(state.moment, made.#size);
-    leave();
-    made.#moment.set(state.moment);
+    checked(state.moment, made.#sets);
+    halves.set(state.moment, made.#place / 2 + WORDS);
     made.#totals = { served: count, alarms: [...alarms], restarts };
     return made;
   }
 
   /** The report that `agc` writes. */
   report() {
-    if (asked !== this) this.#enter();
     const { served: count, alarms, restarts } = this.#totals;
     [count, ...alarms, restarts].forEach((it, k) => {
       numbers.set([it % 2 ** 32, Math.floor(it / 2 ** 32)], at.totals / 4 + 2 * k);
     });
-    calls.agc_write_report(to.answer, to.words, this.#sets, to.totals, to.text, BigInt(SIZE.text));
-    served(numbers[at.answer / 4]);
-    return got(numbers[at.answer / 4 + 1]);
+    calls.agc_write_report(to.answer, this.#words, this.#sets, to.totals, to.text, BigInt(SIZE.text));
+    return textAt(at.answer);
   }
 
   /** A machine of its own with the same words, plan and totals. */
   copy() {
-    const made = new Machine({ sets: this.#sets });
-    leave();
-    made.#plan = this.#plan;
-    made.#words.set(this.#words);
-    made.#moment.set(this.#moment);
+    const made = new Machine({ sets: this.#sets, plan: /** @type {any} */ (this.#plan) });
+    bytes.copyWithin(made.#place, this.#place, this.#place + 4 * WORDS);
     made.#totals = this.totals;
     return made;
   }
@@ -756,27 +718,14 @@ export class Machine {
 
 /** A request that a clock gave: its name, its numbers, and who asks for it. */
 export class Asked {
-  /**
-   * @param {string} name
-   * @param {number[]} given
-   * @param {number | null} event
-   */
+  /** @param {string} name @param {number[]} given @param {number | null} event */
   constructor(name, given, event) {
+    /** @readonly */
     this.name = name;
+    /** @readonly */
     this.numbers = given;
-    /** The number of the event that asks, from 0; null where the clock itself does. */
+    /** The number of the event that asks, from 0; null where the clock itself does. @readonly */
     this.event = event;
-  }
-
-  /** What a clock has written. */
-  static read() {
-    const place = at.request / 4;
-    const name = NAMES[numbers[place]];
-    const count = FORMS.get(name)?.letters.length ?? 0;
-    // (most are ticks, which have none)
-    const given = count === 0 ? [] : Array.from(numbers.subarray(place + 1, place + 1 + count));
-    const source = numbers[at.answer / 4 + 1];
-    return new Asked(name, given, source === 1 ? null : source - 2);
   }
 
   /** Its line, as in a script. */
@@ -794,8 +743,21 @@ export class Asked {
   }
 }
 
+/** The request that is in the memory there, by this event. @param {number} place @param {number | null} event */
+function requestAt(place, event) {
+  const name = NAMES[numbers[place / 4]];
+  const count = FORMS.get(name)?.letters.length ?? 0;
+  // (most are ticks, which have none)
+  return new Asked(name, count === 0 ? [] : numbersAt(place + 4, count), event);
+}
+
+/** What a clock has written. */
+function askedAt() {
+  const source = numbers[at.answer / 4 + 1];
+  return requestAt(at.request, source === 1 ? null : source - 2);
+}
+
 const BOUNDS = ["served", "allowance", "logged", "limit"];
-const WORD = 0xffffffffn;
 
 /**
  * Whether a request is served, with these counts before it: `Code.OK`, `Code.SPENT`, or
@@ -806,25 +768,19 @@ const WORD = 0xffffffffn;
  * @returns {number}
  */
 export function refusalOf(request, bounds) {
-  if (calls === null) throw new TypeError("the module isn't there yet: await start(bytes)");
+  isStarted();
   known("the bounds", bounds, BOUNDS, BOUNDS);
   read(calls.agc_read_request, request, REQUEST_KINDS);
+  const counts = new DataView(calls.memory.buffer, at.bounds);
   BOUNDS.forEach((name, k) => {
     const it = Reflect.get(bounds, name);
-    const [low, high] = typeof it === "bigint" ? [Number(it & WORD), Number(it >> 32n)]
-      : [it % 2 ** 32, Math.floor(it / 2 ** 32)];
-    if (!(Number.isInteger(low) && high >= 0 && high < (k < 2 ? 2 ** 32 : 1))) {
-      throw new AgcError(Code.OUT_OF_RANGE, `${name} can't be ${it}`);
-    }
-    const place = at.bounds / 4 + (k < 2 ? 2 * k : k + 2);
-    numbers[place] = low;
-    if (k < 2) numbers[place + 1] = high;
+    const isWhole = typeof it === "bigint" || Number.isInteger(it);
+    if (!(isWhole && it >= 0 && it < 2 ** (k < 2 ? 64 : 32))) throw new AgcError(Code.OUT_OF_RANGE, `${name} can't be ${it}`);
+    if (k < 2) counts.setBigUint64(8 * k, BigInt(it), true);
+    else counts.setUint32(8 + 4 * k, Number(it), true);
   });
   return calls.agc_refusal(to.request, to.bounds);
 }
-
-/** The most actions that are handed on: one too many is told so. */
-const MOST_ACTIONS = NUMBERS.ACTIONS + 1;
 
 /**
  * The lines of what a pulse of a device asks for, where `line` is "timer", "key" or "radar": a tick,
@@ -834,128 +790,100 @@ const MOST_ACTIONS = NUMBERS.ACTIONS + 1;
  * @returns {string[]}
  */
 export function pulseOf(line, plan = {}) {
-  if (calls === null) throw new TypeError("the module isn't there yet: await start(bytes)");
+  isStarted();
   known("a plan of pulses", plan, DOCUMENT);
-  const found = ["key", "radar"].map((name) => [Reflect.get(plan, name) ?? []].flat()
-    .slice(0, MOST_ACTIONS).map((text, k) => action(text, ACTION_KINDS, `${name}, action ${k + 1}: `)));
-  found.forEach((it, k) => it.forEach((row, j) =>
-    numbers.set(row, at.actions / 4 + 4 * (MOST_ACTIONS * k + j))));
-  const second = to.actions + BigInt(16 * MOST_ACTIONS);
-  const number = DEVICES.includes(line) ? DEVICES.indexOf(line) : DEVICES.length;
-  const [key, radar] = found.map((it) => BigInt(it.length));
-  calls.agc_pulse(to.answer, number, to.actions, key, second, radar, to.pulse);
+  const some = (/** @type {string | readonly string[] | undefined} */ it) => (it === undefined || it.length === 0 ? undefined : it);
+  inRange("a pulse", { key: some(plan.key), radar: some(plan.radar) }, "bench", Code.PLAN_RANGE);
+  const [key, radar] = [actionsOf(plan.key ?? [], "key"), actionsOf(plan.radar ?? [], "radar")];
+  numbers.set([...key, ...radar].flat(), at.actions / 4);
+  const second = to.actions + BigInt(REQUEST.size * key.length);
+  if (!DEVICES.includes(line)) {
+    throw new AgcError(Code.OUT_OF_RANGE, `a line is ${DEVICES.slice(0, -1).join(", ")} or ${DEVICES.at(-1)}, and not ${shown(line)}`);
+  }
+  calls.agc_pulse(to.answer, DEVICES.indexOf(line), to.actions, BigInt(key.length), second, BigInt(radar.length), to.pulse);
   served(numbers[at.answer / 4]);
-  return Array.from({ length: numbers[at.answer / 4 + 1] }, (_, k) => {
-    const [kind, ...given] = numbers.subarray(at.pulse / 4 + 4 * k, at.pulse / 4 + 4 * k + 4);
-    const name = NAMES[kind];
-    return new Asked(name, given.slice(0, FORMS.get(name)?.letters.length), null).text;
-  });
+  return Array.from({ length: numbers[at.answer / 4 + 1] }, (_, k) => requestAt(at.pulse + REQUEST.size * k, null).text);
 }
 
-const STOLEN = LAYOUT.AgcStolen.size;
-const COST = LAYOUT.AgcCost.size;
-const EVENT = LAYOUT.AgcEvent.size;
-const REQUEST = LAYOUT.AgcRequest.size;
 const LAST_TIME = Number(KEYS.event.at.high);
-const LAST_SEED = Number(KEYS.scenario.seed.high);
-/** Where a clock's lot is among its words of 32 bits. */
-const LOT = LAYOUT.AgcClock.lot / 4;
 
-/**
- * The kind and the numbers of a request, which has to be of one of these kinds.
- * @param {string} line
- * @param {string[]} kinds
- * @param {string} where
- */
-function requestOf(line, kinds, where) {
-  read(calls.agc_read_request, line, kinds, where);
-  return numbersAt(at.request, 4);
-}
-
-/**
- * How many centiseconds so many seconds are.
- * @param {number} seconds
- */
+/** How many centiseconds so many seconds are. @param {number} seconds */
 function centiseconds(seconds) {
   const found = Math.round(100 * Number(seconds));
   if (!(Math.abs(100 * seconds - found) < 1e-6)) {
     throw new AgcError(Code.TIME_RANGE, `seconds has to be whole centiseconds, and is ${seconds}`);
   }
   if (found >= 0 && found <= LAST_TIME) return found;
-  const told = `a timetable lasts at most ${LAST_TIME / 100} seconds, and this ${seconds}`;
-  throw new AgcError(Code.TIME_RANGE, told);
+  throw new AgcError(Code.TIME_RANGE, `a timetable lasts at most ${LAST_TIME / 100} seconds, and this ${seconds}`);
 }
 
 /**
- * After how many centiseconds a row comes again, 0 where it doesn't, and the last time at which it
- * may.
- * @param {string} where
+ * After how many centiseconds a row comes again, 0 where it doesn't, and the last time at which it may.
  * @param {{ every?: number, until?: number }} row
  */
-function again(where, row) {
-  const every = whole(row.every ?? 0);
-  if (row.every !== undefined && every === 0) {
-    throw new AgcError(Code.TIME_RANGE, `${where}: every has to be 1 or more`);
-  }
-  return [every, whole(row.until ?? LAST_TIME)];
+function again(row) {
+  return [whole(row.every ?? 0), whole(row.until ?? LAST_TIME)];
 }
 
-/**
- * The least and the most that a job costs, in centiseconds.
- * @param {string} where
- * @param {number | { from: number, to: number }} cost
- */
+/** The rows of stolen time: a percentage, or a list of tables. @param {number | readonly Stolen[]} steal */
+function stolenOf(steal) {
+  if (!Array.isArray(steal)) {
+    inRange("a timetable", { steal }, "scenario", Code.TIME_RANGE);
+    return steal === 0 ? [] : [[0, MOST, whole(Number(steal)), 0, LAST_TIME]];
+  }
+  return steal.map((it, k) => {
+    hasKeys(`steal ${k + 1}`, it, "steal");
+    return [whole(it.from), whole(it.to), whole(it.percent), ...again(it)];
+  });
+}
+
+/** The least and the most that a job costs, in centiseconds. @param {string} where @param {JobCost["cost"]} cost */
 function costsOf(where, cost) {
   if (typeof cost !== "object") return [whole(cost), whole(cost)];
   hasKeys(`${where}: cost`, cost, "cost");
   const [least, most] = [whole(cost.from), whole(cost.to)];
-  if (least >= 1 && least <= most) return [least, most];
-  const told = `from 1 or more to as much or more, and not from ${least} to ${most}`;
+  if (least <= most) return [least, most];
+  const told = `from one number to as much or more, and not from ${least} to ${most}`;
   throw new AgcError(Code.TIME_RANGE, `${where}: a cost is ${told}`);
 }
 
 /**
- * What lots are drawn from; 0 where none are.
- * @param {number | undefined} seed
- * @param {number[][]} costs
+ * What a job costs, whose requests before it leaves are put to the others.
+ * @param {JobCost} it @param {number} k @param {number[][]} requests
  */
-function seedOf(seed, costs) {
-  const byLot = costs.findIndex((it) => it[5] !== 0);
-  if (seed === undefined && byLot === -1) return 0;
-  if (seed === undefined) {
-    const told = `job ${byLot + 1}: its cost is by lot, and there is no seed`;
-    throw new AgcError(Code.TIME_RANGE, told);
-  }
-  if (whole(seed) >= 1 && seed <= LAST_SEED) return seed;
-  throw new AgcError(Code.TIME_RANGE, `seed has to be 1 to ${LAST_SEED}, and is ${seed}`);
+function costOf(it, k, requests) {
+  const job = `job ${k + 1}`;
+  hasKeys(job, it, "job");
+  const lines = [it.then ?? "end"].flat();
+  const [first, where] = [requests.length, `${job}, then: `];
+  requests.push(...lines.slice(0, -1).map((line) => lineOf(calls.agc_read_request, line, STEP_KINDS, where)));
+  // (of an end the address is 0)
+  const [, leaves] = lineOf(calls.agc_read_request, lines[lines.length - 1], LEAVING_KINDS, where);
+  const [low, high] = costsOf(job, it.cost);
+  return [octal(it.at), whole(100 * high), leaves, first, lines.length - 1, whole(100 * (high - low))];
 }
 
-/** From what an event without `after` counts: the start. */
-const START = { alarm: 0, from: 0 };
-
-/** From what an event counts that names an alarm. */
-const ALARMS = new Map(["1201", "1202", "1203"].map((code) => [code, alarmed(code)]));
-
-/** @param {string} code */
-function alarmed(code) {
-  return { alarm: parseInt(code, 8), from: 0 };
+/** From what an event counts: the start, or the first alarm of this code. @param {string} [code] */
+function baseOf(code) {
+  return { alarm: parseInt(code ?? "0", 8), from: 0 };
 }
+
+const ALARMS = new Map(["1201", "1202", "1203"].map((code) => [code, baseOf(code)]));
 
 /**
  * Events, each with the alarm from whose first it counts, 0 for the start: one with `after` counts
  * from the first time of an event of that name above it, or else from the alarm of that code. One
  * that would come after a day never comes.
- * @param {TimedEvent[]} events
+ * @param {readonly TimedEvent[]} events
  */
 function placed(events) {
   const firsts = new Map();
   return events.map((it, k) => {
     hasKeys(`event ${k + 1}`, it, "event");
     const { after, name } = it;
-    const base = after === undefined ? START : firsts.get(after) ?? ALARMS.get(after);
+    const base = after === undefined ? baseOf() : firsts.get(after) ?? ALARMS.get(after);
     if (base === undefined) {
-      const told = `event ${k + 1}: no event above it is called ${JSON.stringify(after)}`;
-      throw new AgcError(Code.TIME_RANGE, told);
+      throw new AgcError(Code.TIME_RANGE, `event ${k + 1}: no event above it is called ${JSON.stringify(after)}`);
     }
     const { alarm, from } = base;
     const first = Math.max(alarm && 1, Math.min(from + whole(it.at), LAST_TIME + 1));
@@ -967,140 +895,42 @@ function placed(events) {
   });
 }
 
-/** What a timetable is in the module's memory, one part after the other. */
+/** A timetable in the module's memory: its events as they are at the start. */
 class LentTimes {
   /** @param {Timetable} given */
   constructor(given) {
     known("a timetable", given, DOCUMENT);
-    const { seconds = LAST_TIME / 100, steal = 0 } = given;
-    const [job, event] = [rowsOf("job", given.job), rowsOf("event", given.event)];
-    const always = steal === 0 ? [] : [{ from: 0, to: 0xffffffff, percent: Number(steal) }];
-    const stolen = /** @type {Stolen[]} */ (Array.isArray(steal) ? steal : always);
+    this.lasts = centiseconds(given.seconds ?? LAST_TIME / 100);
     /** @type {number[][]} */
     const requests = [];
-    this.lasts = centiseconds(seconds);
-    this.stolen = stolen.map((it, k) => {
-      hasKeys(`steal ${k + 1}`, it, "steal");
-      return [whole(it.from), whole(it.to), whole(it.percent), ...again(`steal ${k + 1}`, it)];
+    const stolen = stolenOf(given.steal ?? 0);
+    const costs = rowsOf("job", given.job).map((it, k) => costOf(it, k, requests));
+    this.events = placed(rowsOf("event", given.event)).map((it, k) => {
+      const [lines, first, where] = [[it.do].flat(), requests.length, `event ${k + 1}, do: `];
+      requests.push(...lines.map((line) => lineOf(calls.agc_read_request, line, REQUEST_KINDS, where)));
+      return [whole(it.at), ...again(it), first, lines.length, it.alarm];
     });
-    this.costs = job.map((it, k) => {
-      hasKeys(`job ${k + 1}`, it, "job");
-      const lines = Array.isArray(it.then) ? it.then : [it.then ?? "end"];
-      if (lines.length < 1 || lines.length > 8) {
-        const told = `job ${k + 1}: then has to have 1 to 8 lines, and has ${lines.length}`;
-        throw new AgcError(Code.TIME_RANGE, told);
-      }
-      const first = requests.length;
-      const where = `job ${k + 1}, then: `;
-      requests.push(...lines.slice(0, -1).map((line) => requestOf(line, STEP_KINDS, where)));
-      // (of an end the address is 0)
-      const [, leaves] = requestOf(lines[lines.length - 1], LEAVING_KINDS, where);
-      const [least, most] = costsOf(`job ${k + 1}`, it.cost);
-      const [hundredths, spread] = [whole(100 * most), whole(100 * (most - least))];
-      return [octal(it.at), hundredths, leaves, first, lines.length - 1, spread];
-    });
-    this.events = placed(event).map((it, k) => {
-      const lines = Array.isArray(it.do) ? it.do : [it.do];
-      const first = requests.length;
-      requests.push(...lines.map((line) => requestOf(line, REQUEST_KINDS, `event ${k + 1}, do: `)));
-      return [whole(it.at), ...again(`event ${k + 1}`, it), first, lines.length, it.alarm];
-    });
-    this.requests = requests;
-    this.numbers = Uint32Array.from([this.stolen, this.costs, this.events, requests].flat(2));
-    this.#look();
-    this.seed = seedOf(given.seed, this.costs);
+    this.place = lend(this, TABLE.stolen, [stolen, costs, this.events, requests]);
+    look(calls.agc_clock_check, this.place, { steal: TABLE.stolen_count, job: TABLE.cost_count, event: TABLE.event_count });
+    this.seed = this.#seedOf(given.seed, costs.findIndex((it) => it[5] !== 0));
   }
 
-  /** Looks whether it is a timetable, and says which row isn't. */
-  #look() {
-    leave();
-    const { requests } = this;
-    const code = this.#checked(this.stolen, this.costs, this.events, requests);
-    if (code === Code.OK) return;
-    for (const [k, name] of ["steal", "job", "event"].entries()) {
-      const rows = [this.stolen, this.costs, this.events][k];
-      /** @param {number} count */
-      const lacks = (count) => {
-        const parts = [0, 1, 2].map((it) => (it === k ? rows.slice(0, count) : []));
-        return this.#checked(...parts, requests) === code;
-      };
-      if (!lacks(rows.length)) continue;
-      throw new AgcError(code, `${name} ${firstBad(lacks, rows.length)}: ${codeText(code)}`);
+  /** What lots are drawn from; 0 where none are. @param {number | undefined} seed @param {number} byLot */
+  #seedOf(seed, byLot) {
+    if (seed === undefined && byLot === -1) return 0;
+    if (seed === undefined) {
+      throw new AgcError(Code.TIME_RANGE, `job ${byLot + 1}: its cost is by lot, and there is no seed`);
     }
-    throw new AgcError(code);
-  }
-
-  /** @param {number[][][]} parts */
-  #checked(...parts) {
-    this.lend(at.plan, Uint32Array.from(parts.flat(2)));
-    /** @type {bigint[]} */
-    const lent = [];
-    let place = at.plan;
-    [STOLEN, COST, EVENT, REQUEST].forEach((size, k) => {
-      lent.push(BigInt(place), BigInt(parts[k].length));
-      place += size * parts[k].length;
-    });
-    return calls.agc_clock_check(...lent);
-  }
-
-  /** How many bytes are in front of its events. */
-  get front() {
-    return STOLEN * this.stolen.length + COST * this.costs.length;
-  }
-
-  /**
-   * Its numbers, where the first alarm of each of these codes came at this time. Nothing of a
-   * machine or a clock may be in the module's memory.
-   * @param {Record<string, number>} alarms
-   */
-  heard(alarms) {
-    this.lend(at.plan);
-    for (const [code, time] of Object.entries(alarms)) {
-      numbers.set([0, Kind.ALARMED, parseInt(code, 8), 0, 0], at.answer / 4);
-      numbers[at.clock / 4] = time;
-      this.tell(at.plan + this.front);
-    }
-    return numbers.slice(at.plan / 4, at.plan / 4 + this.numbers.length);
-  }
-
-  /**
-   * Its events, which stand here, take the alarm of the reply that stands at its place.
-   * @param {number} place
-   */
-  tell(place) {
-    this.events.forEach((_, k) => calls.agc_clock_told(to.answer, to.clock, BigInt(place + EVENT * k)));
-  }
-
-  /**
-   * Writes it to a place.
-   * @param {number} place
-   * @param {Uint32Array} all
-   */
-  lend(place, all = this.numbers) {
-    reach(place + all.byteLength);
-    numbers.set(all, place / 4);
+    inRange("a timetable", { seed }, "scenario", Code.TIME_RANGE);
+    return seed;
   }
 }
 
-/**
- * A timetable's own keys, of which what is given later changes nothing.
- * @param {Timetable} given
- * @returns {Timetable}
- */
+/** A timetable's own keys, of which what is given later changes nothing. @param {Timetable} given @returns {Timetable} */
 function timesOf(given) {
   known("a timetable", given, DOCUMENT);
   const named = TIMES.filter((it) => Reflect.get(given, it) !== undefined);
   return structuredClone(Object.fromEntries(named.map((it) => [it, Reflect.get(given, it)])));
-}
-
-/**
- * When the first alarm of each code came, as a clock's state has it.
- * @param {Record<string, number>} alarms
- */
-function alarmsOf(alarms) {
-  known("a clock's alarms", alarms, [...ALARMS.keys()]);
-  if (Object.values(alarms).every((it) => it >>> 0 === it && it <= LAST_TIME)) return { ...alarms };
-  throw new AgcError(Code.TIME_RANGE, "an alarm comes at a centisecond of the first day");
 }
 
 /**
@@ -1110,137 +940,107 @@ function alarmsOf(alarms) {
  * `seed`, 1 to 2147483646. A clock goes with one machine, and is told of all that this is asked.
  */
 export class Clock {
+  /** @type {Timetable} */
   #told;
   /** @type {LentTimes} */
   #times;
-  // (when the first alarm of each code came, and the timetable's numbers by these)
-  /** @type {Record<string, number>} */
+  /** When the first alarm of each code came. @type {Record<string, number>} */
   #alarms = {};
-  #rows;
-  #state = new Uint8Array(SIZE.clock);
-  // (where the timetable stands in the module's memory, part by part)
-  #places = { stolen: 0n, costs: 0n, events: 0n, requests: 0n };
-  #counts = { stolen: 0n, costs: 0n, events: 0n, requests: 0n };
-
-  static {
-    leaveClock = () => {
-      if (timed !== null) timed.#leave();
-      timed = null;
-    };
-  }
+  // (the clock, behind it the events of its timetable, which alarms move, and the timetable with these)
+  #place = 0;
+  #clock = 0n;
+  #lent = 0n;
 
   /** @param {Timetable} timetable */
   constructor(timetable = {}) {
-    if (calls === null) throw new TypeError("the module isn't there yet: await start(bytes)");
+    isStarted();
     // (a copy's is looked at already)
     const looked = timetable instanceof LentTimes;
-    this.#times = looked ? timetable : new LentTimes(timetable);
-    this.#rows = this.#times.numbers;
     this.#told = looked ? {} : timesOf(timetable);
-    new Uint32Array(this.#state.buffer)[LOT] = this.#times.seed;
+    this.#times = looked ? timetable : new LentTimes(timetable);
+    this.#enter({});
+    bytes.fill(0, this.#place, this.#place + CLOCK.size);
+    numbers[(this.#place + CLOCK.lot) / 4] = this.#times.seed;
   }
 
-  /** All of it, of which JSON can be made, for `Clock.of`. */
+  /**
+   * Takes a room for the clock, as it is, and for the events, as these first alarms move them.
+   * @param {Record<string, number>} alarms
+   */
+  #enter(alarms) {
+    const { events, place: times } = this.#times;
+    const size = CLOCK.size + EVENT.size * events.length;
+    const place = roomFor(this, size + TABLE.size);
+    bytes.copyWithin(place, this.#place, this.#place + CLOCK.size);
+    numbers.set(events.flat(), (place + CLOCK.size) / 4);
+    bytes.copyWithin(place + size, times, times + TABLE.size);
+    numbers[(place + size + TABLE.events) / 4] = place + CLOCK.size;
+    [this.#place, this.#clock, this.#lent, this.#alarms] = [place, BigInt(place), BigInt(place + size), {}];
+    for (const [code, time] of Object.entries(alarms)) {
+      numbers[(at.clock + CLOCK.time) / 4] = time;
+      numbers.set([Code.OK, Kind.ALARMED, parseInt(code, 8), 0, 0], at.answer / 4);
+      this.#hear(to.clock, time);
+    }
+  }
+
+  /**
+   * The events take the alarm of the reply that is at its place, which came as this clock says, if it is the first.
+   * @param {bigint} clock @param {number} time
+   */
+  #hear(clock, time) {
+    const code = numbers[at.answer / 4 + 2].toString(8);
+    if (code in this.#alarms) return;
+    this.#alarms = { ...this.#alarms, [code]: time };
+    const place = this.#place + CLOCK.size;
+    this.#times.events.forEach((_, k) => calls.agc_clock_told(to.answer, clock, BigInt(place + EVENT.size * k)));
+  }
+
+  /** All of it, of which JSON can be made, for `Clock.of`. @returns {ClockState} */
   get state() {
-    const [time, , event, , asks, , looks, left] = this.#numbers;
-    const at = [time, event, asks, looks & 1, left, ...this.given, this.#numbers[LOT]];
+    const numbersOf = (/** @type {number[]} */ ...fields) => fields.map((it) => numbers[(this.#place + it) / 4]);
+    const looks = bytes[this.#place + CLOCK.looks];
+    const at = [...numbersOf(CLOCK.time, CLOCK.event, CLOCK.asked), looks, ...numbersOf(CLOCK.left), ...this.given,
+      ...numbersOf(CLOCK.lot)];
     return { timetable: structuredClone(this.#told), at, alarms: { ...this.#alarms } };
   }
 
-  /**
-   * A clock of what `state` told.
-   * @param {ClockState} state
-   */
+  /** A clock of what `state` told. @param {ClockState} state */
   static of(state) {
     known("a clock's state", state, ["timetable", "at", "alarms"], ["timetable", "at"]);
     const made = new Clock(state.timetable);
-    made.#hear(alarmsOf(state.alarms ?? {}));
+    const { alarms = {} } = state;
+    known("a clock's alarms", alarms, [...ALARMS.keys()]);
+    if (!Object.values(alarms).every((it) => it >>> 0 === it && it <= LAST_TIME)) {
+      throw new AgcError(Code.TIME_RANGE, "an alarm comes at a centisecond of the first day");
+    }
+    made.#enter(/** @type {Record<string, number>} */ (alarms));
     const [time, event, asks, looks, left, ...given] = rowsOf("at", state.at);
-    const all = [time, 0, event, 0, asks, 0, looks, left, ...given];
-    if (given.length !== 9 || looks > 1 || all.some((it) => !(it >>> 0 === it))) {
+    if (given.length !== 9 || looks > 1 || state.at.some((it) => !(it >>> 0 === it))) {
       throw new AgcError(Code.OUT_OF_RANGE, "a clock's state has fourteen numbers of 32 bits");
     }
-    made.#state.set(new Uint8Array(Uint32Array.from(all).buffer));
+    for (const [field, ...all] of [[CLOCK.time, time], [CLOCK.event, event], [CLOCK.asked, asks], [CLOCK.looks, looks],
+      [CLOCK.left, left], [CLOCK.given, ...given]]) numbers.set(all, (made.#place + field) / 4);
     return made;
   }
 
-  #leave() {
-    this.#state.set(bytes.subarray(at.clock, at.clock + SIZE.clock));
-  }
-
   /**
-   * Puts the clock and its timetable into the module's memory, behind this machine.
-   * @param {Machine} machine
+   * Writes the next request for a machine with these words to its place, up to a centisecond; false where there is none.
+   * @internal @param {bigint} words @param {number} sets @param {number} end
    */
-  #enter(machine) {
-    // (another machine, or another timetable, makes the clock leave)
-    const end = machine.enter();
-    if (timed === this) return;
-    leaveClock();
-    const { stolen, costs, events, requests } = this.#times;
-    this.#times.lend(end, this.#rows);
-    bytes.set(this.#state, at.clock);
-    const second = end + STOLEN * stolen.length;
-    const third = second + COST * costs.length;
-    const fourth = third + EVENT * events.length;
-    this.#places = {
-      ...{ stolen: BigInt(end), costs: BigInt(second) },
-      ...{ events: BigInt(third), requests: BigInt(fourth) },
-    };
-    this.#counts = {
-      ...{ stolen: BigInt(stolen.length), costs: BigInt(costs.length) },
-      ...{ events: BigInt(events.length), requests: BigInt(requests.length) },
-    };
-    timed = this;
-  }
-
-  /**
-   * Writes the next request to its place, up to a centisecond; false where there is none.
-   * @param {Machine} machine
-   * @param {number} end
-   */
-  give(machine, end) {
-    this.#enter(machine);
-    const lasts = Math.min(this.#times.lasts, end);
-    const { stolen, costs, events, requests } = this.#places;
-    const counts = this.#counts;
-    calls.agc_clock_next_trusted(
-      to.answer, to.words, machine.sets, lasts, stolen, counts.stolen, costs, counts.costs,
-      events, counts.events, requests, counts.requests, to.clock, to.request,
-    );
+  give(words, sets, end) {
+    numbers[(Number(this.#lent) + TABLE.lasts) / 4] = Math.min(this.#times.lasts, end);
+    calls.agc_clock_next_trusted(to.answer, words, sets, this.#lent, this.#clock, to.request);
     return numbers[at.answer / 4 + 1] !== 0;
   }
 
   /**
-   * Takes the reply that stands at its place.
-   * @param {Machine} machine
+   * Takes the reply that is at its place, of a machine with these words.
+   * @internal @param {bigint} words @param {number} sets
    */
-  take(machine) {
-    calls.agc_clock_served_trusted(to.words, machine.sets, to.answer, to.clock);
+  take(words, sets) {
+    calls.agc_clock_served_trusted(words, sets, to.answer, this.#clock);
     const kind = numbers[at.answer / 4 + 1];
-    if (kind === Kind.ALARMED || kind === Kind.TICK_ALARMED) this.#tell();
-  }
-
-  /** Takes the alarm of the reply that stands at its place. */
-  #tell() {
-    const code = numbers[at.answer / 4 + 2].toString(8);
-    if (code in this.#alarms) return;
-    this.#alarms = { ...this.#alarms, [code]: this.time };
-    const place = Number(this.#places.events);
-    this.#times.tell(place);
-    this.#rows = this.#rows.slice();
-    const [from, length] = [place / 4, (EVENT / 4) * this.#times.events.length];
-    this.#rows.set(numbers.subarray(from, from + length), this.#times.front / 4);
-  }
-
-  /**
-   * The first alarm of each of these codes came at this time.
-   * @param {FirstAlarms} alarms
-   */
-  #hear(alarms) {
-    this.#alarms = alarms;
-    leave();
-    this.#rows = Object.keys(alarms).length === 0 ? this.#times.numbers : this.#times.heard(alarms);
+    if (kind === Kind.ALARMED || kind === Kind.TICK_ALARMED) this.#hear(this.#clock, this.time);
   }
 
   /**
@@ -1251,32 +1051,24 @@ export class Clock {
    */
   next(machine) {
     isOf(Machine, "what a clock is for", machine);
-    return this.give(machine, 0xffffffff) ? Asked.read() : null;
+    return machine.next(this);
   }
 
-  /**
-   * Tells what came of a request, also of one that the clock didn't give.
-   * @param {Machine} machine
-   * @param {Step} step
-   */
+  /** Tells what came of a request, also of one that the clock didn't give. @param {Machine} machine @param {Step} step */
   served(machine, step) {
     isOf(Machine, "what a clock is for", machine);
     isOf(Step, "what came of a request", step);
-    this.#enter(machine);
-    const { kind, number, fired, action: raised } = step;
-    numbers.set([0, kind, number, fired.length, raised], at.answer / 4);
-    this.take(machine);
-  }
-
-  /** The clock's words of 32 bits, wherever they are. */
-  get #numbers() {
-    const from = timed === this ? at.clock / 4 : 0;
-    return (timed === this ? numbers : new Uint32Array(this.#state.buffer)).slice(from, from + 17);
+    machine.tell(this, step);
   }
 
   /** The centisecond that passes; 0 before the first tick. */
   get time() {
-    return timed === this ? numbers[at.clock / 4] : new Uint32Array(this.#state.buffer)[0];
+    return numbers[(this.#place + CLOCK.time) / 4];
+  }
+
+  /** How many hundredths of that centisecond are left. @internal */
+  get left() {
+    return numbers[(this.#place + CLOCK.left) / 4];
   }
 
   /**
@@ -1284,7 +1076,7 @@ export class Clock {
    * a lot spared a job counts as given.
    */
   get given() {
-    return Array.from(this.#numbers.subarray(8, 16));
+    return numbersAt(this.#place + CLOCK.given, NUMBERS.MOST_SETS);
   }
 
   /** How many centiseconds the timetable lasts. */
@@ -1292,72 +1084,57 @@ export class Clock {
     return this.#times.lasts;
   }
 
-  /**
-   * Another timetable from here on, of which what isn't named stays as it was.
-   * @param {Timetable} timetable
-   */
+  /** Another timetable from here on, of which what isn't named stays as it was. @param {Timetable} timetable */
   change(timetable) {
     const told = { ...this.#told, ...timesOf(timetable) };
-    const times = new LentTimes(told);
-    this.#told = told;
-    this.#times = times;
-    this.#hear(this.#alarms);
-    // (lots are drawn anew where a seed is named; the clock has left the module's memory)
-    if (timetable.seed !== undefined) new Uint32Array(this.#state.buffer)[LOT] = times.seed;
+    [this.#times, this.#told] = [new LentTimes(told), told];
+    this.#enter(this.#alarms);
+    // (lots are drawn anew where a seed is named)
+    if (timetable.seed !== undefined) numbers[(this.#place + CLOCK.lot) / 4] = this.#times.seed;
   }
 
   /** A clock of its own with the same time, counts and timetable. */
   copy() {
-    leaveClock();
     const made = new Clock(/** @type {any} */ (this.#times));
-    made.#told = this.#told;
-    made.#alarms = this.#alarms;
-    made.#rows = this.#rows;
-    made.#state.set(this.#state);
+    [made.#told, made.#alarms] = [this.#told, this.#alarms];
+    bytes.copyWithin(made.#place, this.#place, this.#place + CLOCK.size + EVENT.size * this.#times.events.length);
     return made;
   }
 }
 
-/**
- * How many core sets so many words have.
- * @param {number} [size]
- */
-function setsOf(size) {
-  return size === WORDS ? NUMBERS.MOST_SETS : NUMBERS.MOST_SETS - 1;
+/** How many core sets these words have. @param {ArrayLike<any>} words */
+function setsOf(words) {
+  return listOf(words).length === WORDS ? NUMBERS.MOST_SETS : NUMBERS.MOST_SETS - 1;
 }
 
-/**
- * How many words there are with so many core sets.
- * @param {number} sets
- */
+/** How many words there are with so many core sets. @param {number} sets */
 function sizeOf(sets) {
   return sets === NUMBERS.MOST_SETS ? WORDS : NUMBERS.LAST_SET;
 }
 
-/**
- * So many numbers of sixteen bits.
- * @param {ArrayLike<number>} words
- * @param {number} size
- */
+/** Words from outside. @param {any} words @returns {ArrayLike<any>} */
+function listOf(words) {
+  if (words instanceof Object) return words;
+  throw new TypeError(`the words have to be an array, and this is ${shown(words)}`);
+}
+
+/** So many numbers of sixteen bits. @param {ArrayLike<number | string>} words @param {number} size */
 function counted(words, size) {
-  if (calls === null) throw new TypeError("the module isn't there yet: await start(bytes)");
-  const found = Array.from(words, whole);
+  isStarted();
+  const found = Array.from(listOf(words), octal);
   if (found.length !== size) {
-    const counts = `there have to be ${size} words, and these are ${found.length}`;
-    throw new AgcError(Code.NOT_WORDS, counts);
+    throw new AgcError(Code.NOT_WORDS, `there have to be ${size} words, and these are ${found.length}`);
   }
   if (found.some((it) => it > 0xffff)) throw new AgcError(Code.NOT_WORDS);
   return found;
 }
 
 /**
- * Throws where these aren't lawful words, as many as a machine has.
- * @param {ArrayLike<number>} words
- * @param {number} size
+ * Throws where these aren't lawful words, as many as there are with so many core sets.
+ * @param {ArrayLike<number>} words @param {number} sets
  */
-function checked(words, size) {
-  halves.set(counted(words, size), at.other / 2);
-  const sets = setsOf(size);
+function checked(words, sets) {
+  halves.set(counted(words, sizeOf(sets)), at.other / 2);
   calls.agc_check(to.answer, to.other, sets);
   lawful(numbers[at.answer / 4], to.other, sets);
 }
@@ -1366,6 +1143,7 @@ function checked(words, size) {
  * What a place of the words is called: "LOC of core set 2", "VAC 1", "NEWJOB", "LST1 0",
  * "PHASE of group 3".
  * @param {number} place
+ * @returns {string}
  */
 export function placeName(place) {
   if (!(Number.isInteger(place) && place >= 0 && place < WORDS)) {
@@ -1376,19 +1154,17 @@ export function placeName(place) {
 
 /**
  * Why words in the module's memory aren't lawful, or null.
- * @param {bigint} words
- * @param {number} sets
- * @returns {Finding | null}
+ * @param {bigint} words @param {number} sets @returns {Finding | null}
  */
 function findingAt(words, sets) {
   calls.agc_explain(to.answer, words, sets);
-  const [code, rule, place, found, right] = numbers.slice(at.answer / 4, at.answer / 4 + 5);
+  const [code, rule, place, found, right] = numbersAt(at.answer, 5);
   if (code !== Code.NOT_WORDS && code !== Code.UNLAWFUL) return null;
   const wanted = right === NUMBERS.ANY ? null : right;
   const [is, would] = [found, right].map((it) => it.toString(8).padStart(5, "0"));
   const other = wanted === null ? "" : `, and would have to be ${would}`;
-  const text = `${placeName(place)} (word ${place}) is ${is}${other}: ${ruleText(rule)}`;
-  return { rule, place, found, wanted, text };
+  calls.agc_write_rule(to.answer, rule, to.text, BigInt(SIZE.text));
+  return { rule, place, found, wanted, text: `${placeName(place)} (word ${place}) is ${is}${other}: ${textAt(at.answer)}` };
 }
 
 /**
@@ -1397,16 +1173,14 @@ function findingAt(words, sets) {
  * @returns {Finding | null}
  */
 export function findingOf(words) {
-  const sets = setsOf(words.length);
+  const sets = setsOf(words);
   halves.set(counted(words, sizeOf(sets)), at.other / 2);
   return findingAt(to.other, sets);
 }
 
 /**
  * Throws what a call lacked that looked at words, and which word it is.
- * @param {number} code
- * @param {bigint} words
- * @param {number} sets
+ * @param {number} code @param {bigint} words @param {number} sets
  */
 function lawful(code, words, sets) {
   if (code === Code.OK) return;
@@ -1415,40 +1189,20 @@ function lawful(code, words, sets) {
 }
 
 /**
- * What words say that a machine has left, or had at a moment: who runs and whom a change of job
- * would bring (job numbers, 0 for nobody), the core sets with their jobs, who owns each VAC area,
- * the tasks that wait with the centiseconds left to each, the six phases, and the three codes. Other
- * words are refused.
+ * What words say that a machine has left, or had at a moment. Other words are refused.
  * @param {ArrayLike<number>} words
  * @returns {Scene}
  */
 export function sceneOf(words) {
-  const sets = setsOf(words.length);
-  checked(words, sizeOf(sets));
+  const sets = setsOf(words);
+  checked(words, sets);
   return sceneAt(to.other, sets);
 }
 
-/**
- * So many numbers of 32 bits that a call has written, from a place on.
- * @param {number} place
- * @param {number} count
- */
-function numbersAt(place, count) {
-  const found = [];
-  for (let k = place / 4; found.length < count; k++) found.push(numbers[k]);
-  return found;
-}
-
-/**
- * The job that a call has written there, or null.
- * @param {number} place
- * @returns {Job | null}
- */
+/** The job that a call has written there, or null. @param {number} place @returns {Job | null} */
 function jobAt(place) {
   const number = numbers[(place + JOB.number) / 4];
   if (number === 0) return null;
-  const work = [];
-  for (let k = 0; k < NUMBERS.WORK; k++) work.push(halves[(place + JOB.work) / 2 + k]);
   return {
     number,
     priority: numbers[(place + JOB.priority) / 4],
@@ -1456,16 +1210,11 @@ function jobAt(place) {
     bank: numbers[(place + JOB.bank) / 4],
     asleep: bytes[place + JOB.asleep] !== 0,
     area: numbers[(place + JOB.area) / 4],
-    work,
+    work: taken(halves, (place + JOB.work) / 2, NUMBERS.WORK),
   };
 }
 
-/**
- * What the tables of words in the module's memory hold.
- * @param {bigint} words
- * @param {number} sets
- * @returns {Scene}
- */
+/** What the tables of words in the module's memory hold. @param {bigint} words @param {number} sets @returns {Scene} */
 function sceneAt(words, sets) {
   served(calls.agc_scene(words, sets, to.scene));
   const place = at.scene;
@@ -1484,7 +1233,7 @@ function sceneAt(words, sets) {
     sets: jobs,
     areas: numbersAt(place + SCENE.areas, NUMBERS.AREAS),
     tasks,
-    phases: Array.from(bytes.subarray(place + SCENE.phases, place + SCENE.phases + NUMBERS.GROUPS)),
+    phases: taken(bytes, place + SCENE.phases, NUMBERS.GROUPS),
     codes: numbersAt(place + SCENE.failreg, NUMBERS.CODES),
   };
 }

@@ -394,6 +394,19 @@ class AgcPhaseEntry(Structure):
     ]
 
 
+class AgcPlan(Structure):
+    """A plan: its rows and its entries."""
+
+    rows: Any
+    row_count: int
+    entries: Any
+    entry_count: int
+    _fields_ = [
+        ("rows", POINTER(AgcRow)), ("row_count", c_size_t), ("entries", POINTER(AgcPhaseEntry)),
+        ("entry_count", c_size_t),
+    ]
+
+
 class AgcStolen(Structure):
     """Stolen time: from centisecond `from` until just before `to`, something else takes `percent`, 0 to 100, of
     each centisecond. If `every` isn't 0, this repeats at that interval, for the same length each time; it
@@ -450,6 +463,25 @@ class AgcEvent(Structure):
     ]
 
 
+class AgcTimetable(Structure):
+    """A timetable: how many centiseconds it lasts, and its rows and requests."""
+
+    lasts: int
+    stolen: Any
+    stolen_count: int
+    costs: Any
+    cost_count: int
+    events: Any
+    event_count: int
+    requests: Any
+    request_count: int
+    _fields_ = [
+        ("lasts", c_uint32), ("stolen", POINTER(AgcStolen)), ("stolen_count", c_size_t),
+        ("costs", POINTER(AgcCost)), ("cost_count", c_size_t), ("events", POINTER(AgcEvent)),
+        ("event_count", c_size_t), ("requests", POINTER(AgcRequest)), ("request_count", c_size_t),
+    ]
+
+
 class AgcClock(Structure):
     """A clock: its centisecond, what of that is done, the hundredths that jobs 1 to 8 were given since they were
     established or roused (what a lot spared a job counts as given), and the lot that was drawn last, where
@@ -472,9 +504,9 @@ class AgcClock(Structure):
 
 #: Each call: the types of what it takes, and of what it answers.
 CALLS: Dict[str, Tuple[List[Any], Any]] = {
-    "agc_plan_check": ([POINTER(AgcRow), c_size_t, POINTER(AgcPhaseEntry), c_size_t], c_uint32),
-    "agc_step": ([POINTER(c_uint16), c_uint32, POINTER(AgcRow), c_size_t, POINTER(AgcPhaseEntry), c_size_t, POINTER(AgcRequest), POINTER(AgcFired), POINTER(c_uint16)], AgcStep),
-    "agc_step_trusted": ([POINTER(c_uint16), c_uint32, POINTER(AgcRow), c_size_t, POINTER(AgcPhaseEntry), c_size_t, POINTER(AgcRequest), POINTER(AgcFired), POINTER(c_uint16)], AgcStep),
+    "agc_plan_check": ([POINTER(AgcPlan)], c_uint32),
+    "agc_step": ([POINTER(c_uint16), c_uint32, POINTER(AgcPlan), POINTER(AgcRequest), POINTER(AgcFired), POINTER(c_uint16)], AgcStep),
+    "agc_step_trusted": ([POINTER(c_uint16), c_uint32, POINTER(AgcPlan), POINTER(AgcRequest), POINTER(AgcFired), POINTER(c_uint16)], AgcStep),
     "agc_begin": ([POINTER(c_uint16), c_uint32, c_uint32, POINTER(AgcPhaseEntry), c_size_t], c_uint32),
     "agc_begin_trusted": ([POINTER(c_uint16), c_uint32, c_uint32, POINTER(AgcPhaseEntry), c_size_t], c_uint32),
     "agc_power_up": ([POINTER(c_uint16), c_uint32, POINTER(AgcPhaseEntry), c_size_t, POINTER(c_uint16)], AgcNumber),
@@ -486,9 +518,9 @@ CALLS: Dict[str, Tuple[List[Any], Any]] = {
     "agc_write_report": ([POINTER(c_uint16), c_uint32, POINTER(AgcTotals), c_char_p, c_size_t], AgcNumber),
     "agc_refusal": ([POINTER(AgcRequest), POINTER(AgcBounds)], c_uint32),
     "agc_pulse": ([c_uint32, POINTER(AgcRequest), c_size_t, POINTER(AgcRequest), c_size_t, POINTER(AgcRequest)], AgcNumber),
-    "agc_clock_check": ([POINTER(AgcStolen), c_size_t, POINTER(AgcCost), c_size_t, POINTER(AgcEvent), c_size_t, POINTER(AgcRequest), c_size_t], c_uint32),
-    "agc_clock_next": ([POINTER(c_uint16), c_uint32, c_uint32, POINTER(AgcStolen), c_size_t, POINTER(AgcCost), c_size_t, POINTER(AgcEvent), c_size_t, POINTER(AgcRequest), c_size_t, POINTER(AgcClock), POINTER(AgcRequest)], AgcNumber),
-    "agc_clock_next_trusted": ([POINTER(c_uint16), c_uint32, c_uint32, POINTER(AgcStolen), c_size_t, POINTER(AgcCost), c_size_t, POINTER(AgcEvent), c_size_t, POINTER(AgcRequest), c_size_t, POINTER(AgcClock), POINTER(AgcRequest)], AgcNumber),
+    "agc_clock_check": ([POINTER(AgcTimetable)], c_uint32),
+    "agc_clock_next": ([POINTER(c_uint16), c_uint32, POINTER(AgcTimetable), POINTER(AgcClock), POINTER(AgcRequest)], AgcNumber),
+    "agc_clock_next_trusted": ([POINTER(c_uint16), c_uint32, POINTER(AgcTimetable), POINTER(AgcClock), POINTER(AgcRequest)], AgcNumber),
     "agc_clock_served": ([POINTER(c_uint16), c_uint32, POINTER(AgcStep), POINTER(AgcClock)], c_uint32),
     "agc_clock_served_trusted": ([POINTER(c_uint16), c_uint32, POINTER(AgcStep), POINTER(AgcClock)], c_uint32),
     "agc_clock_told": ([POINTER(AgcStep), POINTER(AgcClock), POINTER(AgcEvent)], c_uint32),

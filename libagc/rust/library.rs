@@ -1,5 +1,7 @@
 //! The library as agc.h has it: its calls take an array that the caller owns. tools/bindings wrote this from agc.h, the tables of keys and the forms of lines.
 
+use std::marker::PhantomData;
+
 /// The call was served.
 pub const OK: u32 = 0;
 /// The number of core sets is neither 7 nor 8.
@@ -397,6 +399,10 @@ pub const FORMS: [(&str, &[Part]); 14] = [
     ("fresh", &[]),
 ];
 
+/// The last centisecond of a timetable, and the greatest seed.
+pub const LAST_TIME: u32 = 8640000;
+pub const LAST_SEED: u32 = 2147483646;
+
 /// A list of requests, and what is wrong with a line that begins as none of them does.
 #[derive(Clone, Copy, Debug)]
 pub struct Kinds {
@@ -632,6 +638,24 @@ pub struct AgcPhaseEntry {
     pub task_bank: u32,
 }
 
+/// A plan: its rows and its entries.
+#[repr(C)]
+#[derive(Clone, Copy, Debug)]
+pub struct AgcPlan<'a> {
+    rows: *const AgcRow,
+    row_count: usize,
+    entries: *const AgcPhaseEntry,
+    entry_count: usize,
+    lent: PhantomData<&'a ()>,
+}
+
+impl<'a> AgcPlan<'a> {
+    /// Of these slices.
+    pub const fn new(rows: &'a [AgcRow], entries: &'a [AgcPhaseEntry]) -> AgcPlan<'a> {
+        AgcPlan { rows: rows.as_ptr(), row_count: rows.len(), entries: entries.as_ptr(), entry_count: entries.len(), lent: PhantomData }
+    }
+}
+
 /// Stolen time: from centisecond `from` until just before `to`, something else takes `percent`, 0
 /// to 100, of each centisecond. If `every` isn't 0, this repeats at that interval, for the same
 /// length each time; it last begins at `until` or earlier, and if `until` is before `from` it
@@ -683,6 +707,29 @@ pub struct AgcEvent {
     pub after: u32,
 }
 
+/// A timetable: how many centiseconds it lasts, and its rows and requests.
+#[repr(C)]
+#[derive(Clone, Copy, Debug)]
+pub struct AgcTimetable<'a> {
+    lasts: u32,
+    stolen: *const AgcStolen,
+    stolen_count: usize,
+    costs: *const AgcCost,
+    cost_count: usize,
+    events: *const AgcEvent,
+    event_count: usize,
+    requests: *const AgcRequest,
+    request_count: usize,
+    lent: PhantomData<&'a ()>,
+}
+
+impl<'a> AgcTimetable<'a> {
+    /// Of these slices.
+    pub const fn new(lasts: u32, stolen: &'a [AgcStolen], costs: &'a [AgcCost], events: &'a [AgcEvent], requests: &'a [AgcRequest]) -> AgcTimetable<'a> {
+        AgcTimetable { lasts, stolen: stolen.as_ptr(), stolen_count: stolen.len(), costs: costs.as_ptr(), cost_count: costs.len(), events: events.as_ptr(), event_count: events.len(), requests: requests.as_ptr(), request_count: requests.len(), lent: PhantomData }
+    }
+}
+
 /// A clock: its centisecond, what of that is done, the hundredths that jobs 1 to 8 were given
 /// since they were established or roused (what a lot spared a job counts as given), and the lot
 /// that was drawn last, where the next is 48271 times that modulo 2147483647. All zeros is a
@@ -698,27 +745,6 @@ pub struct AgcClock {
     pub left: u32,
     pub given: [u32; 8],
     pub lot: u32,
-}
-
-/// Whether rows and entries make a plan: OK, and then no era of it begins with an alarm; or the
-/// first of PLAN_RANGE, TASK_TWICE, PHASE_TWICE and TOO_MANY_AREAS.
-pub fn agc_plan_check(rows: &[AgcRow], entries: &[AgcPhaseEntry]) -> u32 {
-    // SAFETY: what is lent outlives the call, which is told how much it is.
-    unsafe { raw::agc_plan_check(rows.as_ptr(), rows.len(), entries.as_ptr(), entries.len()) }
-}
-
-/// One request, with all that follows from it: in a tick each task that is due fires, and the
-/// actions of its row are done; after an alarm, and at a restart or fresh start, an era begins by
-/// the plan's entries. `fired` gets the tasks that fired, in order, in its first places; the
-/// others stay. `moment` is always filled: with the words as they were when the request was
-/// answered, before an era began with it, and where the code isn't OK with the words as they are.
-/// Codes, the first that applies: those of the image; OUT_OF_RANGE and NOT_A_WORD for the
-/// request; NOT_NOW where a task is due; UNTIDY; those of agc_plan_check. The trusted form looks
-/// at the request alone; a number of the plan that is out of range then does nothing, and of two
-/// rows or entries the first counts.
-pub fn agc_step(words: &mut [u16; WORDS], sets: u32, rows: &[AgcRow], entries: &[AgcPhaseEntry], request: &AgcRequest, fired: &mut [AgcFired; FIRED], moment: &mut [u16; WORDS]) -> AgcStep {
-    // SAFETY: what is lent outlives the call, which is told how much it is.
-    unsafe { raw::agc_step(words, sets, rows.as_ptr(), rows.len(), entries.as_ptr(), entries.len(), request, fired, moment) }
 }
 
 /// An era begins, as after an alarm: its code is recorded, all jobs and tasks are gone, and then
@@ -788,41 +814,12 @@ pub fn agc_pulse(line: u32, key: &[AgcRequest], radar: &[AgcRequest], requests: 
     unsafe { raw::agc_pulse(line, key.as_ptr(), key.len(), radar.as_ptr(), radar.len(), requests) }
 }
 
-/// Whether rows make a timetable: OK, or the first of TIME_RANGE, STEAL_TWICE and COST_TWICE. Of
-/// all rows and requests there may be none, and they may then be null.
-pub fn agc_clock_check(stolen: &[AgcStolen], costs: &[AgcCost], events: &[AgcEvent], requests: &[AgcRequest]) -> u32 {
-    // SAFETY: what is lent outlives the call, which is told how much it is.
-    unsafe { raw::agc_clock_check(stolen.as_ptr(), stolen.len(), costs.as_ptr(), costs.len(), events.as_ptr(), events.len(), requests.as_ptr(), requests.len()) }
-}
-
-/// The next request of a clock for a machine with these words, which goes on for `lasts`
-/// centiseconds. docs/TIME.md says how time passes. The number tells who asks: 1 the clock, 2 and
-/// more an event, the first being 2; and then *request is to be asked, and agc_clock_served to be
-/// told of it. It is 0 where the time is over, and *request stays. Codes: those of the image,
-/// then those of agc_clock_check. The trusted form looks at neither, and has the condition of
-/// other calls: an address that is out of its range then counts as 037777, numbers that are no
-/// request as CHANGE, a job's requests end before the first that it can't ask for, and of two
-/// rows for one time or address the first counts.
-#[allow(clippy::too_many_arguments)]
-pub fn agc_clock_next(words: &[u16; WORDS], sets: u32, lasts: u32, stolen: &[AgcStolen], costs: &[AgcCost], events: &[AgcEvent], requests: &[AgcRequest], clock: &mut AgcClock, request: &mut AgcRequest) -> AgcNumber {
-    // SAFETY: what is lent outlives the call, which is told how much it is.
-    unsafe { raw::agc_clock_next(words, sets, lasts, stolen.as_ptr(), stolen.len(), costs.as_ptr(), costs.len(), events.as_ptr(), events.len(), requests.as_ptr(), requests.len(), clock, request) }
-}
-
 /// The calls that take pointers and lengths.
 pub mod raw {
     use super::*;
 
     #[link(name = "agc", kind = "static")]
     unsafe extern "C" {
-        pub fn agc_plan_check(rows: *const AgcRow, row_count: usize, entries: *const AgcPhaseEntry, entry_count: usize) -> u32;
-        pub fn agc_step(words: &mut [u16; WORDS], sets: u32, rows: *const AgcRow, row_count: usize, entries: *const AgcPhaseEntry, entry_count: usize, request: &AgcRequest, fired: &mut [AgcFired; FIRED], moment: &mut [u16; WORDS]) -> AgcStep;
-        /// As `agc_step`, of an array that an earlier call left so.
-        ///
-        /// # Safety
-        ///
-        /// The array is as an earlier call with this number of core sets left it: agc.h has more.
-        pub fn agc_step_trusted(words: &mut [u16; WORDS], sets: u32, rows: *const AgcRow, row_count: usize, entries: *const AgcPhaseEntry, entry_count: usize, request: &AgcRequest, fired: &mut [AgcFired; FIRED], moment: &mut [u16; WORDS]) -> AgcStep;
         pub fn agc_begin(words: &mut [u16; WORDS], sets: u32, alarm: u32, entries: *const AgcPhaseEntry, entry_count: usize) -> u32;
         /// As `agc_begin`, of an array that an earlier call left so.
         ///
@@ -843,23 +840,51 @@ pub mod raw {
         pub fn agc_write_rule(rule: u32, text: *mut u8, room: usize) -> AgcNumber;
         pub fn agc_write_report(words: &[u16; WORDS], sets: u32, totals: &AgcTotals, text: *mut u8, room: usize) -> AgcNumber;
         pub fn agc_pulse(line: u32, key: *const AgcRequest, key_count: usize, radar: *const AgcRequest, radar_count: usize, requests: &mut [AgcRequest; ACTIONS]) -> AgcNumber;
-        pub fn agc_clock_check(stolen: *const AgcStolen, stolen_count: usize, costs: *const AgcCost, cost_count: usize, events: *const AgcEvent, event_count: usize, requests: *const AgcRequest, request_count: usize) -> u32;
-        pub fn agc_clock_next(words: &[u16; WORDS], sets: u32, lasts: u32, stolen: *const AgcStolen, stolen_count: usize, costs: *const AgcCost, cost_count: usize, events: *const AgcEvent, event_count: usize, requests: *const AgcRequest, request_count: usize, clock: &mut AgcClock, request: &mut AgcRequest) -> AgcNumber;
-        /// As `agc_clock_next`, of an array that an earlier call left so.
-        ///
-        /// # Safety
-        ///
-        /// The array is as an earlier call with this number of core sets left it: agc.h has more.
-        pub fn agc_clock_next_trusted(words: &[u16; WORDS], sets: u32, lasts: u32, stolen: *const AgcStolen, stolen_count: usize, costs: *const AgcCost, cost_count: usize, events: *const AgcEvent, event_count: usize, requests: *const AgcRequest, request_count: usize, clock: &mut AgcClock, request: &mut AgcRequest) -> AgcNumber;
     }
 }
 
 #[link(name = "agc", kind = "static")]
 unsafe extern "C" {
+    /// Whether rows and entries make a plan: OK, and then no era of it begins with an alarm; or
+    /// the first of PLAN_RANGE, TASK_TWICE, PHASE_TWICE and TOO_MANY_AREAS.
+    pub safe fn agc_plan_check(plan: &AgcPlan) -> u32;
+    /// One request, with all that follows from it: in a tick each task that is due fires, and the
+    /// actions of its row are done; after an alarm, and at a restart or fresh start, an era
+    /// begins by the plan's entries. `fired` gets the tasks that fired, in order, in its first
+    /// places; the others stay. `moment` is always filled: with the words as they were when the
+    /// request was answered, before an era began with it, and where the code isn't OK with the
+    /// words as they are. Codes, the first that applies: those of the image; OUT_OF_RANGE and
+    /// NOT_A_WORD for the request; NOT_NOW where a task is due; UNTIDY; those of agc_plan_check.
+    /// The trusted form looks at the request alone; a number of the plan that is out of range
+    /// then does nothing, and of two rows or entries the first counts.
+    pub safe fn agc_step(words: &mut [u16; WORDS], sets: u32, plan: &AgcPlan, request: &AgcRequest, fired: &mut [AgcFired; FIRED], moment: &mut [u16; WORDS]) -> AgcStep;
+    /// As `agc_step`, of an array that an earlier call left so.
+    ///
+    /// # Safety
+    ///
+    /// The array is as an earlier call with this number of core sets left it: agc.h has more.
+    pub fn agc_step_trusted(words: &mut [u16; WORDS], sets: u32, plan: &AgcPlan, request: &AgcRequest, fired: &mut [AgcFired; FIRED], moment: &mut [u16; WORDS]) -> AgcStep;
     /// Whether a request is served, with these counts before it, by the rule of `agc`: OK;
     /// OUT_OF_RANGE and NOT_A_WORD for the request; SPENT; LOG_FULL, which neither RESTART nor
     /// FRESH is answered. agc_step asks nobody: it serves what is lawful.
     pub safe fn agc_refusal(request: &AgcRequest, bounds: &AgcBounds) -> u32;
+    /// Whether rows make a timetable: OK, or the first of TIME_RANGE, STEAL_TWICE and COST_TWICE.
+    pub safe fn agc_clock_check(table: &AgcTimetable) -> u32;
+    /// The next request of a clock for a machine with these words. docs/TIME.md says how time
+    /// passes. The number tells who asks: 1 the clock, 2 and more an event, the first being 2;
+    /// and then *request is to be asked, and agc_clock_served to be told of it. It is 0 where the
+    /// time is over, and *request stays. Codes: those of the image, then those of
+    /// agc_clock_check. The trusted form looks at neither, and has the condition of other calls:
+    /// an address that is out of its range then counts as 037777, numbers that are no request as
+    /// CHANGE, a job's requests end before the first that it can't ask for, and of two rows for
+    /// one time or address the first counts.
+    pub safe fn agc_clock_next(words: &[u16; WORDS], sets: u32, table: &AgcTimetable, clock: &mut AgcClock, request: &mut AgcRequest) -> AgcNumber;
+    /// As `agc_clock_next`, of an array that an earlier call left so.
+    ///
+    /// # Safety
+    ///
+    /// The array is as an earlier call with this number of core sets left it: agc.h has more.
+    pub fn agc_clock_next_trusted(words: &[u16; WORDS], sets: u32, table: &AgcTimetable, clock: &mut AgcClock, request: &mut AgcRequest) -> AgcNumber;
     /// A clock takes what came of a request, also of one that it didn't ask for: the words as the
     /// step left them, and what agc_step answered. Codes of the image.
     pub safe fn agc_clock_served(words: &[u16; WORDS], sets: u32, step: &AgcStep, clock: &mut AgcClock) -> u32;

@@ -39,7 +39,8 @@ static AgcRequest read(const char *line, bool of_plan) {
 static void ask(uint32_t source, AgcRequest it) {
     AgcFired fired[AGC_FIRED];
     char text[AGC_LINE];
-    AgcStep step = agc_step(words, sets, rows, row_count, entries, entry_count, &it, fired, moment);
+    AgcPlan plan = {rows, row_count, entries, entry_count};
+    AgcStep step = agc_step(words, sets, &plan, &it, fired, moment);
     want(step.code == AGC_OK, "a step");
     want((trusted ? agc_clock_served_trusted : agc_clock_served)(words, sets, &step, &timer) == AGC_OK, "served");
     for (size_t k = 0; k < event_count; k++) agc_clock_told(&step, &timer, &events[k]);
@@ -50,9 +51,9 @@ static void ask(uint32_t source, AgcRequest it) {
 static void run(uint32_t centiseconds) {
     AgcRequest it = {0, 0, 0, 0};
     uint32_t end = timer.time + centiseconds < lasts ? timer.time + centiseconds : lasts;
+    AgcTimetable table = {end, stolen, stolen_count, costs, cost_count, events, event_count, requests, request_count};
     for (;;) {
-        AgcNumber asked = (trusted ? agc_clock_next_trusted : agc_clock_next)(words, sets, end, stolen, stolen_count, costs,
-            cost_count, events, event_count, requests, request_count, &timer, &it);
+        AgcNumber asked = (trusted ? agc_clock_next_trusted : agc_clock_next)(words, sets, &table, &timer, &it);
         want(asked.code == AGC_OK, "the next request");
         if (asked.number == 0) return;
         ask(asked.number, it);
@@ -132,26 +133,26 @@ static void refuses(void) {
     AgcEvent event = {0, 0, 0, 1, 1, 0};
     memcpy(&was, &clock, sizeof clock);
     agc_clear(words, 7);
-    want(agc_clock_next(words, 6, 10, NULL, 0, NULL, 0, NULL, 0, NULL, 0, &clock, &it).code == AGC_NO_SUCH_SETS, "6 sets");
-    want(agc_clock_next(words, 7, 10, twice, 2, NULL, 0, NULL, 0, NULL, 0, &clock, &it).code == AGC_STEAL_TWICE, "two rows");
-    want(agc_clock_next(words, 7, 10, beat, 2, NULL, 0, NULL, 0, NULL, 0, &clock, &it).code == AGC_TIME_RANGE, "a beat too quick");
-    want(agc_clock_next(words, 7, 10, NULL, 0, cost, 2, NULL, 0, NULL, 0, &clock, &it).code == AGC_COST_TWICE, "two costs");
-    want(agc_clock_next(words, 7, 10, NULL, 0, &bad, 1, NULL, 0, NULL, 0, &clock, &it).code == AGC_TIME_RANGE, "a bad cost");
-    want(agc_clock_next(words, 7, 10, NULL, 0, NULL, 0, &event, 1, &it, 1, &clock, &it).code == AGC_TIME_RANGE, "a bad event");
-    want(agc_clock_check(NULL, 0, &asks, 1, NULL, 0, steps, 7) == AGC_OK, "seven requests");
-    want(agc_clock_check(NULL, 0, &asks, 1, NULL, 0, steps, 6) == AGC_TIME_RANGE, "fewer than a job asks for");
+    want(agc_clock_next(words, 6, &(AgcTimetable){10, NULL, 0, NULL, 0, NULL, 0, NULL, 0}, &clock, &it).code == AGC_NO_SUCH_SETS, "6 sets");
+    want(agc_clock_next(words, 7, &(AgcTimetable){10, twice, 2, NULL, 0, NULL, 0, NULL, 0}, &clock, &it).code == AGC_STEAL_TWICE, "two rows");
+    want(agc_clock_next(words, 7, &(AgcTimetable){10, beat, 2, NULL, 0, NULL, 0, NULL, 0}, &clock, &it).code == AGC_TIME_RANGE, "a beat too quick");
+    want(agc_clock_next(words, 7, &(AgcTimetable){10, NULL, 0, cost, 2, NULL, 0, NULL, 0}, &clock, &it).code == AGC_COST_TWICE, "two costs");
+    want(agc_clock_next(words, 7, &(AgcTimetable){10, NULL, 0, &bad, 1, NULL, 0, NULL, 0}, &clock, &it).code == AGC_TIME_RANGE, "a bad cost");
+    want(agc_clock_next(words, 7, &(AgcTimetable){10, NULL, 0, NULL, 0, &event, 1, &it, 1}, &clock, &it).code == AGC_TIME_RANGE, "a bad event");
+    want(agc_clock_check(&(AgcTimetable){0, NULL, 0, &asks, 1, NULL, 0, steps, 7}) == AGC_OK, "seven requests");
+    want(agc_clock_check(&(AgcTimetable){0, NULL, 0, &asks, 1, NULL, 0, steps, 6}) == AGC_TIME_RANGE, "fewer than a job asks for");
     asks.count = 8;
-    want(agc_clock_check(NULL, 0, &asks, 1, NULL, 0, steps, 9) == AGC_TIME_RANGE, "eight requests");
+    want(agc_clock_check(&(AgcTimetable){0, NULL, 0, &asks, 1, NULL, 0, steps, 9}) == AGC_TIME_RANGE, "eight requests");
     asks.first = 8, asks.count = 1;
-    want(agc_clock_check(NULL, 0, &asks, 1, NULL, 0, steps, 9) == AGC_TIME_RANGE, "a tick");
-    want(agc_clock_check(NULL, 0, &lot, 1, NULL, 0, NULL, 0) == AGC_OK, "a cost from 1 to 9");
-    want(agc_clock_check(NULL, 0, &wide, 1, NULL, 0, NULL, 0) == AGC_TIME_RANGE, "a cost from 0 on");
+    want(agc_clock_check(&(AgcTimetable){0, NULL, 0, &asks, 1, NULL, 0, steps, 9}) == AGC_TIME_RANGE, "a tick");
+    want(agc_clock_check(&(AgcTimetable){0, NULL, 0, &lot, 1, NULL, 0, NULL, 0}) == AGC_OK, "a cost from 1 to 9");
+    want(agc_clock_check(&(AgcTimetable){0, NULL, 0, &wide, 1, NULL, 0, NULL, 0}) == AGC_TIME_RANGE, "a cost from 0 on");
     words[89] = 12;
-    want(agc_clock_next(words, 7, 10, NULL, 0, NULL, 0, NULL, 0, NULL, 0, &clock, &it).code == AGC_UNLAWFUL, "no image");
+    want(agc_clock_next(words, 7, &(AgcTimetable){10, NULL, 0, NULL, 0, NULL, 0, NULL, 0}, &clock, &it).code == AGC_UNLAWFUL, "no image");
     want(agc_clock_served(words, 7, &step, &clock) == AGC_UNLAWFUL, "no image");
     want(!memcmp(&was, &clock, sizeof clock) && !memcmp(&same, &it, sizeof it), "a refusal changes nothing");
-    want(agc_clock_check(NULL, 0, NULL, 0, NULL, 0, NULL, 0) == AGC_OK, "a timetable of nothing");
-    want(agc_clock_check(beat + 1, 1, NULL, 0, NULL, 0, NULL, 0) == AGC_OK, "a beat without rest");
+    want(agc_clock_check(&(AgcTimetable){0, NULL, 0, NULL, 0, NULL, 0, NULL, 0}) == AGC_OK, "a timetable of nothing");
+    want(agc_clock_check(&(AgcTimetable){0, beat + 1, 1, NULL, 0, NULL, 0, NULL, 0}) == AGC_OK, "a beat without rest");
 }
 
 static void all_told(const AgcStep *step, const AgcClock *clock, AgcEvent its[4]) {
@@ -166,7 +167,7 @@ static void tells(void) {
     AgcStep ticked = {0, AGC_TICK_ALARMED, 01203, 1, 1}, other = {0, AGC_ALARMED, 01202, 0, 0};
     AgcEvent its[4] = {{50, 7, 90, 0, 1, 01201}, {0, 0, 0, 0, 1, 01203}, {5, 0, 0, 0, 1, 0}, {8640000, 2, 8640000, 0, 1, 01201}}, was[4];
     memcpy(was, its, sizeof its);
-    want(agc_clock_check(NULL, 0, NULL, 0, its, 4, &it, 1) == AGC_OK, "events that wait");
+    want(agc_clock_check(&(AgcTimetable){0, NULL, 0, NULL, 0, its, 4, &it, 1}) == AGC_OK, "events that wait");
     all_told(&tick, &clock, its);
     all_told(&job, &clock, its);
     all_told(&other, &clock, its);
@@ -180,11 +181,11 @@ static void tells(void) {
     memcpy(was, its, sizeof its);
     all_told(&alarm, &clock, its);
     want(!memcmp(was, its, sizeof its), "the second 1201");
-    want(agc_clock_check(NULL, 0, NULL, 0, its, 4, &it, 1) == AGC_OK, "events with their times");
+    want(agc_clock_check(&(AgcTimetable){0, NULL, 0, NULL, 0, its, 4, &it, 1}) == AGC_OK, "events with their times");
     its[2].after = 01200;
-    want(agc_clock_check(NULL, 0, NULL, 0, its, 4, &it, 1) == AGC_TIME_RANGE, "no such alarm");
+    want(agc_clock_check(&(AgcTimetable){0, NULL, 0, NULL, 0, its, 4, &it, 1}) == AGC_TIME_RANGE, "no such alarm");
     its[2].after = 01204;
-    want(agc_clock_check(NULL, 0, NULL, 0, its, 4, &it, 1) == AGC_TIME_RANGE, "nor this");
+    want(agc_clock_check(&(AgcTimetable){0, NULL, 0, NULL, 0, its, 4, &it, 1}) == AGC_TIME_RANGE, "nor this");
 }
 
 int main(int argc, char **argv) {

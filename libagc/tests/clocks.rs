@@ -176,6 +176,10 @@ fn asks() -> Result<(), AgcError> {
     let lines = |found: Vec<AgcRequest>| found.iter().map(AgcRequest::to_string).collect::<Vec<_>>();
     assert_eq!(lines(pulse(Device::Key, &["nothing", "rouse 02100"], &[])?), ["rouse 02100"]);
     assert_eq!(lines(pulse(Device::Timer, &[], &[])?), ["tick"]);
+    let told = |found: Result<Vec<AgcRequest>, AgcError>| found.unwrap_err().to_string();
+    assert_eq!(told(pulse(Device::Key, &["nothing"; 5], &[])), "a pulse: key has to have 1 to 4 lines, and has 5");
+    let action = r#"radar, action 2: "end": an action is nothing, or begins with novac, findvac, rouse or list"#;
+    assert_eq!(told(pulse(Device::Key, &[], &["nothing", "end"])), action);
     assert_eq!((refusal("tick", &of(9, 5))?, refusal("restart", &of(9, 5))?), (Code::LogFull, Code::Ok));
     assert_eq!(refusal("tock", &of(9, 5)).unwrap_err().code, Code::NotSpelled);
     // An event whose last time is before its first never comes.

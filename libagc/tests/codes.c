@@ -178,7 +178,8 @@ static uint32_t step(uint16_t *w, uint32_t s, const AgcRow *rows, size_t n, cons
     memset(was, 7, sizeof was);
     memset(moment, 7, sizeof moment);
     memcpy(before, w, sizeof before);
-    AgcStep it = agc_step(w, s, rows, n, entries, m, &asked, fired, moment);
+    AgcPlan plan = {rows, n, entries, m};
+    AgcStep it = agc_step(w, s, &plan, &asked, fired, moment);
     check(it.code == 0 || !memcmp(fired, was, sizeof was), "places for tasks", s, it.code);
     check(it.code == 0 || (it.reply | it.number | it.fired | it.action) == 0, "the rest of agc_step", s, it.code);
     check(it.code == 0 || !memcmp(moment, before, (s == 8 ? 144 : 132) * sizeof *moment), "a moment", s, it.code);
@@ -203,12 +204,16 @@ static void steps(void) {
     IS("agc_step, a gap", 8, (agc_list(w, s, 1, 1, 0), agc_list(w, s, 2, 1, 0), w[91] = 077777, memcpy(was, w, sizeof w),
                               step(w, s, NULL, 0, NULL, 0, change)));
     IS("agc_step, a row twice", 10, step(w, s, rows, 2, NULL, 0, change));
-    check(agc_plan_check(rows, 2, NULL, 0) == 10 && agc_plan_check(rows, 1, NULL, 0) == 0, "agc_plan_check", 7, 10);
+    AgcPlan plan = {rows, 2, NULL, 0};
+    check(agc_plan_check(&plan) == 10, "agc_plan_check, a row twice", 7, 10);
+    plan.row_count = 1;
+    check(agc_plan_check(&plan) == 0, "agc_plan_check", 7, 0);
+    plan.rows = &row;
 #define ROW(CHANGE)                                                                         \
     do {                                                                                    \
         row = rows[0];                                                                      \
         row.CHANGE;                                                                         \
-        check(agc_plan_check(&row, 1, NULL, 0) == 9, "agc_plan_check " #CHANGE, 7, 9);      \
+        check(agc_plan_check(&plan) == 9, "agc_plan_check " #CHANGE, 7, 9);                \
         IS("agc_step, " #CHANGE, 9, step(w, s, &row, 1, NULL, 0, change));                  \
     } while (0)
     /* More rows than there are marks, by which rows are compared: none is twice, then the first and the last are one. */
@@ -243,12 +248,13 @@ static void steps(void) {
 static void clocks(void) {
     AgcClock clock;
     AgcRequest it;
+    AgcTimetable tick = {1, NULL, 0, NULL, 0, NULL, 0, NULL, 0};
     AgcStep step = {AGC_OK, AGC_TICKED, 0, 0, 0};
     memset(&clock, 0, sizeof clock);
-    BROKEN("agc_clock_next", agc_clock_next(w, s, 1, NULL, 0, NULL, 0, NULL, 0, NULL, 0, &clock, &it).code);
+    BROKEN("agc_clock_next", agc_clock_next(w, s, &tick, &clock, &it).code);
     BROKEN("agc_clock_served", agc_clock_served(w, s, &step, &clock));
     check(clock.time == 0, "a clock of no image", 7, 0);
-    BOTH_OF("agc_clock_next", 0, agc_clock_next, w, s, 1, NULL, 0, NULL, 0, NULL, 0, NULL, 0, &clock, &it);
+    BOTH_OF("agc_clock_next", 0, agc_clock_next, w, s, &tick, &clock, &it);
     check(clock.time == 1 && it.kind == AGC_TICK, "the time is over after a tick", 7, 0);
     BOTH("agc_clock_served", 0, agc_clock_served, w, s, &step, &clock);
 }
@@ -299,19 +305,20 @@ static void asking(void) {
 static void never(void) {
     AgcRequest change = {AGC_CHANGE, 0, 0, 0}, it = change;
     AgcEvent event = {5, 2, 4, 0, 1, 0};
+    AgcTimetable table = {20, NULL, 0, NULL, 0, &event, 1, &change, 1};
     AgcClock clock;
     uint16_t words[AGC_WORDS];
     memset(&clock, 0, sizeof clock);
-    check(agc_clock_check(NULL, 0, NULL, 0, &event, 1, &change, 1) == 0, "an event that never comes", 7, 0);
+    check(agc_clock_check(&table) == 0, "an event that never comes", 7, 0);
     agc_clear(words, 7);
     for (int k = 0; k < 20; k++) {
         AgcStep step = {AGC_OK, AGC_TICKED, 0, 0, 0};
-        check(agc_clock_next(words, 7, 20, NULL, 0, NULL, 0, &event, 1, &change, 1, &clock, &it).number == 1, "a tick, and no event", 7, 0);
+        check(agc_clock_next(words, 7, &table, &clock, &it).number == 1, "a tick, and no event", 7, 0);
         check(agc_clock_served(words, 7, &step, &clock) == 0, "a tick", 7, 0);
     }
-    check(agc_clock_next(words, 7, 20, NULL, 0, NULL, 0, &event, 1, &change, 1, &clock, &it).number == 0, "the time is over", 7, 0);
+    check(agc_clock_next(words, 7, &table, &clock, &it).number == 0, "the time is over", 7, 0);
     event.until = 8640001;
-    check(agc_clock_check(NULL, 0, NULL, 0, &event, 1, &change, 1) == 15, "an event beyond a day", 7, 15);
+    check(agc_clock_check(&table) == 15, "an event beyond a day", 7, 15);
 }
 
 static void power(void) {

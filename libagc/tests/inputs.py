@@ -101,7 +101,7 @@ def scenarios(seed, count):
             if line:
                 clock.ask(None, line)
         files["passed"].append(lines[0])
-        for row in (it for it in clock.rows if isinstance(it, time.Row)):
+        for row in clock.rows:
             kind, *numbers = documents.request_of(row.line)
             who = {None: 0, time.CLOCK: 1}.get(row.who, row.who + 2 if isinstance(row.who, int) else None)
             numbers = [1 + kinds.index(kind), *numbers, *[0] * (3 - len(numbers))]

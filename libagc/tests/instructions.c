@@ -22,6 +22,7 @@ static uint32_t step(long calls, size_t count) {
     static const AgcRequest requests[] = {{AGC_PHASE, 1, 3, 0}, {AGC_TICK, 0, 0, 0}, {AGC_NOVAC, 020, 04000, 5}, {AGC_END, 0, 0, 0}};
     static uint16_t words[AGC_WORDS], moment[AGC_WORDS];
     static AgcRow rows[MOST];
+    AgcPlan plan = {rows, count, NULL, 0};
     AgcFired fired[AGC_FIRED];
     uint32_t code = agc_clear(words, 7);
     size_t k;
@@ -30,7 +31,7 @@ static uint32_t step(long calls, size_t count) {
         rows[k].actions[0] = requests[2];
     }
     for (k = 0; k < (size_t)calls; k++)
-        code |= agc_step_trusted(words, 7, rows, count, NULL, 0, &requests[k % 4], fired, moment).code;
+        code |= agc_step_trusted(words, 7, &plan, &requests[k % 4], fired, moment).code;
     return code;
 }
 

@@ -3,6 +3,8 @@
 //
 //     node keeping.mjs AGC_JS
 import { pathToFileURL } from "node:url";
+import { setFlagsFromString } from "node:v8";
+import { runInNewContext } from "node:vm";
 
 const agc = await import(pathToFileURL(process.argv[2]).href);
 const { Clock, Code, Kind, AgcError, Machine, VERSION, placeName, pulseOf, refusalOf, replyText, sceneOf } = agc;
@@ -88,11 +90,12 @@ function pulsesAsk() {
   want(same(pulseOf("timer"), ["tick"]) && same(pulseOf("timer", { key, radar: key }), ["tick"]), "a timer");
   want(same(pulseOf("key", { key }), ["novac 20 02000 00005", "rouse 02100"]), "a key");
   want(same(pulseOf("radar", { key }), []), "a radar of nothing");
+  want(same(pulseOf("key", { key: "rouse 02100", allowance: 5n }), ["rouse 02100"]), "a bench as a plan");
   want(same(pulseOf("radar", { radar: "list 16250 37777 77777" }), ["list 16250 37777 77777"]), "a radar");
   const four = new Array(4).fill("findvac 01 00001 00000");
   want(same(pulseOf("key", { key: four }), four), "four actions");
-  thrown(AgcError, () => pulseOf("key", { key: [...four, "nothing"] }), "a number of the plan is out of its range");
-  thrown(AgcError, () => pulseOf("bell"), "a number of the call is out of its range");
+  thrown(AgcError, () => pulseOf("key", { key: [...four, "nothing"] }), "a pulse: key has to have 1 to 4 lines, and has 5");
+  thrown(AgcError, () => pulseOf("bell"), 'a line is timer, key or radar, and not "bell"');
   thrown(AgcError, () => pulseOf("key", { key: "tick" }), 'key, action 1: "tick": an action is nothing, or begins with novac, findvac, rouse or list');
   want(machine.ask("tick").fired.length === 1 && machine.scene().sets[0].at === 0o4000, "the machine goes on");
 }
@@ -122,11 +125,17 @@ function keysAreKnown() {
 function faultsNameTheirRow() {
   const [row, entry] = [{ at: "02000", bank: "00005", action: "nothing" }, { group: 1, phase: 1 }];
   const others = Array.from({ length: 39 }, (_, k) => ({ ...row, at: 0o2001 + k }));
-  const range = "a number of the plan is out of its range";
-  thrown(AgcError, () => new Machine({ plan: { task: [{ ...row, at: "00000" }, row] } }), `task 1: ${range}`);
-  thrown(AgcError, () => new Machine({ plan: { task: [row, { ...row, at: "00000" }, row] } }), `task 2: ${range}`);
+  thrown(AgcError, () => new Machine({ plan: { task: [{ ...row, at: "00000" }, row] } }), 'task 1 of the plan, at: "00000": an address is five octal digits, 00001 to 37777');
+  thrown(AgcError, () => new Machine({ plan: { task: [row, { ...row, bank: 32768 }, row] } }), "task 2 of the plan, bank: 32768: a word is five octal digits, 00000 to 77777");
   thrown(AgcError, () => new Machine({ plan: { task: [row, ...others, row, row] } }), "task 41: a task has two rows of the plan");
-  thrown(AgcError, () => new Machine({ plan: { task: others, phase: [entry, { ...entry, phase: 128 }] } }), `phase 2: ${range}`);
+  thrown(AgcError, () => new Machine({ plan: { task: others, phase: [entry, { ...entry, phase: 128 }] } }), "phase 2 of the plan: phase is 128, and may be 1 to 127");
+  thrown(AgcError, () => new Machine({ sets: 9 }), "a machine: sets is 9, and may be 7 to 8");
+  thrown(AgcError, () => new Clock({ steal: 101 }), "a timetable: steal is 101, and may be 0 to 100");
+  thrown(TypeError, () => new Machine({ words: null }), "the words have to be an array, and this is null");
+  thrown(TypeError, () => new Machine({ power: 3 }), "the words have to be an array, and this is 3");
+  thrown(TypeError, () => sceneOf(null), "the words have to be an array, and this is null");
+  const cost = { from: 0, to: 5 };
+  thrown(AgcError, () => new Clock({ seed: 1, job: [{ at: 1, cost }] }), "job 1: cost: from is 0, and may be 1 to 1000000");
   const costs = [1, 2, 3, 2, 1].map((at) => ({ at, cost: 1 }));
   thrown(AgcError, () => new Clock({ job: costs }), "job 4: one address has two costs");
   const steal = [{ from: 9, to: 12, percent: 1 }, { from: 0, to: 10, percent: 1 }];
@@ -271,6 +280,31 @@ function messagesCanBeShown() {
   want(`${machine}` === "<Machine: job 1 runs; jobs: 1, tasks: 0, alarms: 0>" && agc.Lacking === AgcError, `${machine}`);
 }
 
+/** What is collected gives its part of the module's memory back, to others, and never what one that is there still has. */
+async function roomsAreGivenBackOnce() {
+  setFlagsFromString("--expose-gc");
+  const collect = runInNewContext("gc");
+  const event = [{ after: "1202", at: 10, do: "phase 1 1" }];
+  const made = (k) => {
+    const [machine, clock] = [new Machine({ plan: PLAN }), new Clock({ event })];
+    machine.ask("novac", 1 + k % 31, 1 + k, 5);
+    machine.run(clock, 1 + k % 7);
+    clock.change({ steal: k % 100 });
+    return [machine, clock];
+  };
+  const told = (pairs) => pairs.map(([machine, clock]) => [machine.copy().state, clock.copy().state]);
+  const kept = Array.from({ length: 40 }, (_, k) => made(k));
+  const was = told(kept);
+  for (let turn = 0; turn < 5; turn++) {
+    for (let k = 0; k < 200; k++) made(k).map((it) => it.copy());
+    collect();
+    await new Promise((done) => { setTimeout(done, 5); });
+  }
+  const later = Array.from({ length: 200 }, (_, k) => made(k + 40));
+  want(same(told(kept), was) && same(told(later).slice(0, 3), told([made(40), made(41), made(42)])), "machines that are there stay");
+}
+
+await roomsAreGivenBackOnce();
 timeGoesOn();
 messagesCanBeShown();
 anEventMayNeverCome();

@@ -1,5 +1,4 @@
-"""What machines and clocks of agc.py refuse with a sentence, how they are kept, and how threads share one. Prints what
-doesn't hold."""
+"""What machines and clocks of agc.py refuse with a sentence, how they are kept, and how threads share one."""
 
 import ast
 import copy
@@ -9,6 +8,7 @@ import pickle
 import subprocess
 import sys
 import threading
+import unittest
 
 import agc
 from agc import AgcError, Clock, Code, Machine
@@ -21,127 +21,6 @@ SERVICER = {
     "event": [{"at": 0, "every": 200, "do": "findvac 20 04000 00005"}, {"at": 50, "do": ["novac 27 04100 00005", "prio 20"]}],
 }
 PLAN = {"task": [{"at": "02000", "bank": 5, "action": ["findvac 20 04000 00007", "list 2 02000 00005"]}]}
-
-
-def raised(kind, call):
-    try:
-        call()
-    except kind as fault:
-        assert type(fault) is kind, repr(fault)
-        return str(fault)
-    raise AssertionError(f"nothing was raised, and not {kind.__name__}")
-
-
-def time_goes_on():
-    """A run of less than nothing is refused at once, and nothing passes; of nothing it is no run."""
-    machine, clock = Machine(), Clock()
-    assert raised(AgcError, lambda: machine.run(clock, -1)) == "time can't go back, by -1 centiseconds"
-    raised(TypeError, lambda: machine.run(clock, 2.5))
-    assert [*machine.run(clock, 0)] == [] and clock.time == 0 and machine.totals.served == 0
-    assert len([*machine.run(clock, 3)]) == 3 and clock.time == 3
-
-
-def a_day_is_the_longest():
-    """Events come up to a day, so that a timetable that lasts longer would lose them."""
-    assert Clock({"seconds": 86400}).lasts == 8640000 and Clock({"seconds": 0.29}).lasts == 29
-    told = "a timetable lasts at most 86400 seconds, and this 86401"
-    assert raised(AgcError, lambda: Clock({"seconds": 86401})) == told
-    assert raised(AgcError, lambda: Clock({"seconds": 0.125})) == "seconds has to be whole centiseconds, and is 0.125"
-    late = {"event": [{"at": 0, "do": "tick"}, {"at": 8640001, "do": "tick"}]}
-    assert raised(AgcError, lambda: Clock(late)) == "event 2: a number of the timetable is out of its range"
-
-
-def an_event_may_never_come():
-    """Its last time is before its first: only the clock's own requests come, as in `agc_watch`."""
-    clock, machine = Clock({"event": [{"at": 5, "every": 2, "until": 4, "do": "restart"}]}), Machine()
-    assert {(it.text, it.event) for it, _ in machine.run(clock, 20)} == {("tick", None)}
-
-
-def an_event_may_come_at_the_start_alone():
-    """Its last time is 0, and not missing."""
-    clock, machine = Clock({"event": [{"at": 0, "every": 2, "until": 0, "do": "restart"}]}), Machine()
-    assert [it.text for it, _ in machine.run(clock, 9)].count("restart") == 1
-
-
-def bounds_refuse():
-    """By the rule of `agc`: the allowance is looked at first, and a full log serves what starts over."""
-    for counts, lines in [
-        ((0, 1, 0, 1), ("change", "tick", "restart")),
-        ((2**64 - 2, 2**64 - 1, 999_999, 1_000_000), ("novac 20 02000 00005",)),
-        ((9, 10, 5, 5), ("restart", "fresh")),
-    ]:
-        assert [agc.refusal(it, agc.Bounds(*counts)) for it in lines] == [Code.OK] * len(lines), counts
-    for counts, code in [((9, 10, 5, 5), Code.LOG_FULL), ((10, 10, 5, 5), Code.SPENT), ((0, 0, 0, 1), Code.SPENT), ((11, 10, 0, 5), Code.SPENT)]:
-        assert agc.refusal("tick", agc.Bounds(*counts)) is code, counts
-    assert agc.refusal("fresh", agc.Bounds(10, 10, 0, 5)) is Code.SPENT
-    told = raised(AgcError, lambda: agc.refusal("tock", agc.Bounds(0, 1, 0, 1)))
-    assert told == "'tock': its first word is unknown; did you mean \"tick\"?", told
-    assert raised(AgcError, lambda: agc.refusal("tick", agc.Bounds(0, 2**64, 0, 1))) == "allowance can't be 18446744073709551616"
-    assert raised(AgcError, lambda: agc.refusal("tick", agc.Bounds(0, 1, -1, 1))) == "logged can't be -1"
-    raised(TypeError, lambda: agc.refusal("tick", (0, 1, 0, 1)))
-
-
-def pulses_ask():
-    """A timer's pulse for a tick, the others' for what the plan has done."""
-    keys = ["nothing", "novac 20 02000 00005", "rouse 02100", "nothing"]
-    assert agc.pulse("timer") == ["tick"] and agc.pulse("timer", keys, keys) == ["tick"]
-    assert agc.pulse("key", keys) == ["novac 20 02000 00005", "rouse 02100"] and agc.pulse("radar", keys) == []
-    assert agc.pulse("radar", radar="list 16250 37777 77777") == ["list 16250 37777 77777"]
-    assert agc.pulse("key", ["findvac 01 00001 00000"] * 4) == ["findvac 01 00001 00000"] * 4
-    assert raised(AgcError, lambda: agc.pulse("key", ["nothing"] * 5)) == "a number of the plan is out of its range"
-    assert raised(AgcError, lambda: agc.pulse("bell")) == "a number of the call is out of its range"
-    told = raised(AgcError, lambda: agc.pulse("key", "tick"))
-    assert told == "key, action 1: 'tick': an action is nothing, or begins with novac, findvac, rouse or list", told
-
-
-def keys_are_known():
-    for call, told in [
-        (lambda: Clock({"stael": 15}), "a timetable has no key 'stael': is it 'steal'?"),
-        (lambda: Clock({"job": [{"at": "04000", "costs": 1}]}), "job 1 has no key 'costs': is it 'cost'?"),
-        (lambda: Clock({"job": [{"at": "04000"}]}), "job 1 has to have 'cost'"),
-        (lambda: Clock({"event": [{"at": 0, "do": "tick"}, {"do": "tick"}]}), "event 2 has to have 'at'"),
-        (lambda: Clock({"steal": [{"from": 0, "to": 9}]}), "steal 1 has to have 'percent'"),
-        (lambda: Clock({"steal": 1.5}), "a number has to be an int, and 1.5 is of type float"),
-        (lambda: Clock({"steal": "15"}), "steal has to be a list of dicts, and '15' is of type str"),
-        (lambda: Clock({"job": [{"at": "04000", "cost": 0.29}]}), "a number has to be an int, and 0.29 is of type float"),
-        (lambda: Clock({"job": {"at": "04000", "cost": 1}}), "job has to be a list of dicts, and {'at': '04000', 'cost': 1} is of type dict"),
-        (lambda: Clock([]), "a timetable has to be a dict, and [] is of type list"),
-        (lambda: Machine(plan={"tasks": []}), "a plan has no key 'tasks': is it 'task'?"),
-        (lambda: Machine(plan={"task": [{"at": 1, "bank": 5}]}), "task 1 of the plan has to have 'action'"),
-        (lambda: Machine(plan={"task": [{"at": 1, "bank": 5, "action": 7}]}), "task 1 of the plan: action has to be a line or a list of lines, and 7 is of type int"),
-        (lambda: Machine(plan={"phase": [{"group": 1, "phase": 1}, {"group": 1}]}), "phase 2 of the plan has to have 'phase'"),
-        (lambda: Machine(plan={"phase": [5]}), "phase 1 of the plan has to be a dict, and 5 is of type int"),
-    ]:
-        found = raised(TypeError if "of type" in told else ValueError, call)
-        assert found == told, found
-    # A whole scenario stands for its plan and for its timetable.
-    scenario = {"title": "a landing", "sets": 7, "seconds": 60, **PLAN, **SERVICER}
-    assert Clock(scenario).lasts == 6000 and Machine(plan=scenario).ask("tick").text == "tick"
-
-
-def a_fault_names_its_row():
-    row, entry = {"at": "02000", "bank": "00005", "action": "nothing"}, {"group": 1, "phase": 1}
-    others = [{**row, "at": 0o2000 + k} for k in range(1, 40)]
-    for call, told in [
-        (lambda: Machine(plan={"task": [{**row, "at": "00000"}, row]}), "task 1: a number of the plan is out of its range"),
-        (lambda: Machine(plan={"task": [row, {**row, "at": "00000"}, row]}), "task 2: a number of the plan is out of its range"),
-        (lambda: Machine(plan={"task": [row, *others, row, row]}), "task 41: a task has two rows of the plan"),
-        (lambda: Machine(plan={"task": others, "phase": [entry, {**entry, "phase": 128}]}), "phase 2: a number of the plan is out of its range"),
-        (lambda: Machine(plan={"phase": [entry, {**entry, "group": 2}, entry]}), "phase 3: a group's phase has two entries of the plan"),
-        (lambda: Clock({"job": [{"at": k, "cost": 1} for k in (1, 2, 3, 2, 1)]}), "job 4: one address has two costs"),
-        (lambda: Clock({"steal": [{"from": 9, "to": 12, "percent": 1}, {"from": 0, "to": 10, "percent": 1}]}), "steal 2: two rows of stolen time hold at one time"),
-    ]:
-        found = raised(AgcError, call)
-        assert found == told, found
-
-
-def foreign_words_have_no_scene():
-    words = [*Machine().words]
-    assert agc.scene_of(words).running == 0
-    for place, bits in [(11, 0o1001), (89, 0o14), (129, 5), (90, 1), (3, 32768)]:
-        assert "scene" not in raised(AgcError, lambda: agc.scene_of([*words[:place], bits, *words[place + 1:]]))
-    raised(AgcError, lambda: agc.scene_of(words[:131]))
-    raised(AgcError, lambda: agc.scene_of([]))
 
 
 def halfway():
@@ -162,28 +41,10 @@ KEPT = {
 }
 
 
-def machines_and_clocks_are_kept():
-    """What is kept goes on as what was kept does, and leaves it alone."""
-    machine, clock = halfway()
-    was = machine.words, machine.moment, machine.totals, clock.time, clock.given
-    wanted = [(str(asked), str(step)) for asked, step in machine.copy().run(clock.copy(), 700)]
-    assert len(wanted) > 700 and machine.totals.alarms != (0, 0, 0)
-    for name, kept in KEPT.items():
-        other, its = kept(machine), kept(clock)
-        assert (other.words, other.moment, other.totals, its.time, its.given) == was and other.sets == 8, name
-        assert [(str(asked), str(step)) for asked, step in other.run(its, 700)] == wanted, name
-        assert (machine.words, machine.moment, machine.totals, clock.time, clock.given) == was, name
-    for change in ({"words": [0] * 144}, {"moment": [0] * 144}, {"totals": [-1, [0, 0, 0], 0]}):
-        raised(AgcError, lambda: Machine.of_state({**machine.state, **change}))
-    many = Machine.of_state({**machine.state, "totals": [2**40 + 5, [0, 0, 0], 0]})
-    assert "\nSERVED 1099511627781\n" in many.report()
-    raised(ValueError, lambda: Machine.of_state({"sets": 8}))
-    raised(AgcError, lambda: Clock.of_state({**clock.state, "at": [2**32] + [0] * 12}))
-    assert type(pickle.loads(pickle.dumps(machine.totals))) is agc.Totals
-
-
 # A task begins a more urgent job, which takes over as the clock looks at NEWJOB.
 TAKEN_OVER = {"task": [{"at": "02000", "bank": 5, "action": "novac 30 05000 00005"}]}
+
+
 TAKING_OVER = {
     "job": [{"at": "04000", "cost": 9}, {"at": "05000", "cost": 2}],
     "event": [
@@ -194,175 +55,273 @@ TAKING_OVER = {
 }
 
 
-def clocks_are_kept_after_each_request():
-    """They go on as one that isn't: after a tick there is still the look at NEWJOB."""
-    wanted = [(str(asked), str(step)) for asked, step in Machine(plan=TAKEN_OVER).run(Clock(TAKING_OVER), 20)]
-    machine, clock, found = Machine(plan=TAKEN_OVER), Clock(TAKING_OVER), []
-    while one := next(machine.run(clock, 20 - clock.time), None):
-        found.append((str(one[0]), str(one[1])))
-        machine, clock = Machine.of_state(machine.state), Clock.of_state(clock.state)
-    assert found == wanted and ("change", "runs 2") in wanted and ("phase 1 1", "phased") in wanted, (found, wanted)
-
-
-def an_alarm_moves_what_counts_from_it():
-    """The events of a clock, and of none that was copied before."""
-    key = {"name": "key", "after": "1202", "at": 10, "do": "phase 1 1"}
-    machine = Machine()
-    clock = Clock({"event": [{"at": 5, "do": ["novac 20 04000 00005"] * 8}, key, {"after": "key", "at": 5, "do": "phase 1 2"}]})
-    assert len([*machine.run(clock, 4)]) == 4
-    other, its = machine.copy(), clock.copy()
-    assert len([*machine.run(clock, 4)]) == 12 and clock.state["alarms"] == {"1202": 5} and its.state["alarms"] == {}
-    again = Clock.of_state(clock.state)
-    for one, timer in [(machine.copy(), again), (machine, clock), (other, its)]:
-        found = [(timer.time, str(asked)) for asked, _ in one.run(timer, 20) if asked.name == "phase"]
-        assert found == [(15, "phase 1 1"), (20, "phase 1 2")], found
-    old = {name: it for name, it in clock.state.items() if name != "alarms"}
-    assert Clock.of_state(old).state["alarms"] == {}
-    raised(AgcError, lambda: Clock.of_state({**old, "alarms": {"1202": 8640001}}))
-    raised(ValueError, lambda: Clock.of_state({**old, "alarms": {"1204": 1}}))
-    raised(AgcError, lambda: Clock({"event": [{"at": 1, "after": "1204", "do": "tick"}]}))
-
-
-def a_clock_is_changed():
-    """What isn't named stays, lots go on unless a seed is named, and what counts from an alarm still does."""
-    job, event = [{"at": "04000", "cost": {"from": 1, "to": 9}}], [{"at": 0, "do": "novac 20 04000 00005"}]
-    machine, clock = Machine(), Clock({"seed": 5, "job": job, "event": event})
-    assert [str(it) for it, _ in machine.run(clock, 1)] == ["novac 20 04000 00005", "tick"]
-    lot = 48271 * 5
-    clock.change({"steal": 10})
-    assert (clock.state["at"][-1], clock.time, clock.state["timetable"]["job"]) == (lot, 1, job)
-    clock.change({"seed": 9, "event": [{"at": 3, "do": "phase 1 1"}]})
-    assert clock.state["at"][-1] == 9 and "phase 1 1" in [str(it) for it, _ in machine.run(clock, 5)]
-    was = clock.state
-    raised(ValueError, lambda: clock.change({"stael": 15}))
-    raised(AgcError, lambda: clock.change({"steal": 101}))
-    assert clock.state == was
-
-
-def threads_take_turns():
-    """Six threads ask one machine: each request is served, and counted once."""
-    machine, steps = Machine(), [[] for _ in range(6)]
-
-    def work(k):
-        for _ in range(500):
-            steps[k] += [machine.ask("phase 1 1" if k < 2 else "findvac 20 02000 00005"), machine.ask("tick")]
-
-    switch = sys.getswitchinterval()
-    sys.setswitchinterval(1e-6)
-    threads = [threading.Thread(target=work, args=(k,)) for k in range(6)]
-    for it in threads:
-        it.start()
-    for it in threads:
-        it.join()
-    sys.setswitchinterval(switch)
-    told = sum(map(len, steps)), sum(it.alarm == 0o1201 for some in steps for it in some)
-    assert (machine.totals.served, machine.totals.alarms[0]) == told == (6000, 2000 // 6), machine.totals
-
-
-def messages_can_be_shown():
-    """What is out of range is named with its number and its range, and a line is explained as `agc_watch check` explains it."""
-    machine, row = Machine(), {"at": 1, "bank": 5, "action": ["nothing", "tick"]}
-    for call, told in [
-        (lambda: machine.ask("novac", 0o40, 0o2000, 5), "priority is 40 (octal), and may be 1 to 37"),
-        (lambda: machine.ask("novac", 1, 0, 5), "address is 0 (octal), and may be 1 to 37777"),
-        (lambda: machine.ask("findvac", 1, 1, 32768), "word is 100000 (octal), and may be 0 to 77777"),
-        (lambda: machine.ask("list", 16251, 1, 1), "delay is 16251, and may be 1 to 16250"),
-        (lambda: machine.ask("phase", 7, 1), "group is 7, and may be 1 to 6"),
-        (lambda: machine.ask("novac", 2**32 + 1, 1, 1), "priority is 40000000001 (octal), and may be 1 to 37"),
-        (lambda: machine.ask(""), "'': a line may not be empty"),
-        (lambda: machine.ask("tick\r"), "'tick\\r': a line ends with LF alone, not with CR LF"),
-        (lambda: machine.ask("novac 20"), "'novac 20': it has the form \"novac P A W\", with single spaces"),
-        (lambda: machine.ask("novac 20 2000 00005"), "'novac 20 2000 00005': an address is five octal digits, 00001 to 37777"),
-        (lambda: machine.ask("prio", 7, 8), "'prio': no request of this name has 2 numbers"),
-        (lambda: Machine(words=[0] * 131), "there have to be 132 words, and these are 131"),
-        (lambda: Machine(plan={"task": [row]}),
-         "task 1 of the plan, action 2: 'tick': an action is nothing, or begins with novac, findvac, rouse or list"),
-    ]:
-        found = raised(AgcError, call)
-        assert found == told, found
-    told = "what a clock is for has to be a Machine, and None is of type NoneType"
-    assert raised(TypeError, lambda: Clock().next(None)) == told == raised(TypeError, lambda: Clock().served(None, None))
-    raised(TypeError, lambda: machine.run(None, 5))
-    raised(TypeError, lambda: machine.ask("novac", 1.0, 1, 1))
-    machine.ask("findvac 20 02000 00005")
-    assert repr(machine) == "<Machine: job 1 runs; jobs: 1, tasks: 0, alarms: 0>", repr(machine)
-    other = pickle.loads(pickle.dumps(AgcError(Code.NOT_SPELLED, "'tock'")))
-    assert (other.code, str(other)) == (Code.NOT_SPELLED, "'tock'") and agc.Lacking is AgcError
-
-
-def a_wrong_library_is_told():
-    for named, part in [
-        ("/nowhere", "OSError: AGC_LIBRARY names /nowhere, which can't be loaded: "),
-        (HERE, f"OSError: AGC_LIBRARY names {HERE}, which can't be loaded: "),
-        ("libc.so.6", "OSError: AGC_LIBRARY names libc.so.6, which can't be loaded: "),
-    ]:
-        environment = {**os.environ, "AGC_LIBRARY": named}
-        ran = subprocess.run([sys.executable, "-c", "import agc"], env=environment, capture_output=True, text=True)
-        assert ran.returncode == 1 and part in ran.stderr, f"{named}: {ran.stderr}"
-
-
 def module():
     with open(agc.__file__, encoding="utf-8") as file:
         return ast.parse(file.read())
 
 
-def python_3_8_will_do():
-    """It has no `list[int]` but in hints, which aren't evaluated."""
-    for it in module().body:
-        parts = ast.walk(it.value) if isinstance(it, (ast.Assign, ast.AnnAssign)) else []
-        of = {one.value.id for one in parts if isinstance(one, ast.Subscript) and isinstance(one.value, ast.Name)}
-        assert not of & {"dict", "list", "tuple", "type"}, f"line {it.lineno}"
+class Keeping(unittest.TestCase):
+    def raised(self, kind, call):
+        """The sentence with which a call is refused, by a fault of just this kind."""
+        with self.assertRaises(kind) as found:
+            call()
+        self.assertIs(type(found.exception), kind)
+        return str(found.exception)
+
+    def test_time_goes_on(self):
+        """A run of less than nothing is refused at once, and nothing passes; of nothing it is no run."""
+        machine, clock = Machine(), Clock()
+        self.assertEqual(self.raised(AgcError, lambda: machine.run(clock, -1)), "time can't go back, by -1 centiseconds")
+        self.raised(TypeError, lambda: machine.run(clock, 2.5))
+        self.assertTrue([*machine.run(clock, 0)] == [] and clock.time == 0 and machine.totals.served == 0)
+        self.assertTrue(len([*machine.run(clock, 3)]) == 3 and clock.time == 3)
+
+    def test_a_day_is_the_longest(self):
+        """Events come up to a day, so that a timetable that lasts longer would lose them."""
+        self.assertTrue(Clock({"seconds": 86400}).lasts == 8640000 and Clock({"seconds": 0.29}).lasts == 29)
+        told = "a timetable lasts at most 86400 seconds, and this 86401"
+        self.assertEqual(self.raised(AgcError, lambda: Clock({"seconds": 86401})), told)
+        self.assertEqual(self.raised(AgcError, lambda: Clock({"seconds": 0.125})), "seconds has to be whole centiseconds, and is 0.125")
+        late = {"event": [{"at": 0, "do": "tick"}, {"at": 8640001, "do": "tick"}]}
+        self.assertEqual(self.raised(AgcError, lambda: Clock(late)), "event 2: at is 8640001, and may be 0 to 8640000")
+
+    def test_an_event_may_never_come(self):
+        """Its last time is before its first: only the clock's own requests come, as in `agc_watch`."""
+        clock, machine = Clock({"event": [{"at": 5, "every": 2, "until": 4, "do": "restart"}]}), Machine()
+        self.assertEqual({(it.text, it.event) for it, _ in machine.run(clock, 20)}, {("tick", None)})
+
+    def test_an_event_may_come_at_the_start_alone(self):
+        """Its last time is 0, and not missing."""
+        clock, machine = Clock({"event": [{"at": 0, "every": 2, "until": 0, "do": "restart"}]}), Machine()
+        self.assertEqual([it.text for it, _ in machine.run(clock, 9)].count("restart"), 1)
+
+    def test_bounds_refuse(self):
+        """By the rule of `agc`: the allowance is looked at first, and a full log serves what starts over."""
+        for counts, lines in [
+            ((0, 1, 0, 1), ("change", "tick", "restart")),
+            ((2**64 - 2, 2**64 - 1, 999_999, 1_000_000), ("novac 20 02000 00005",)),
+            ((9, 10, 5, 5), ("restart", "fresh")),
+        ]:
+            self.assertEqual([agc.refusal(it, agc.Bounds(*counts)) for it in lines], [Code.OK] * len(lines), counts)
+        for counts, code in [((9, 10, 5, 5), Code.LOG_FULL), ((10, 10, 5, 5), Code.SPENT), ((0, 0, 0, 1), Code.SPENT), ((11, 10, 0, 5), Code.SPENT)]:
+            self.assertIs(agc.refusal("tick", agc.Bounds(*counts)), code, counts)
+        self.assertIs(agc.refusal("fresh", agc.Bounds(10, 10, 0, 5)), Code.SPENT)
+        told = self.raised(AgcError, lambda: agc.refusal("tock", agc.Bounds(0, 1, 0, 1)))
+        self.assertEqual(told, "'tock': its first word is unknown; did you mean \"tick\"?")
+        self.assertEqual(self.raised(AgcError, lambda: agc.refusal("tick", agc.Bounds(0, 2**64, 0, 1))), "allowance can't be 18446744073709551616")
+        self.assertEqual(self.raised(AgcError, lambda: agc.refusal("tick", agc.Bounds(0, 1, -1, 1))), "logged can't be -1")
+        self.raised(TypeError, lambda: agc.refusal("tick", (0, 1, 0, 1)))
+
+    def test_pulses_ask(self):
+        """A timer's pulse for a tick, the others' for what the plan has done."""
+        keys = ["nothing", "novac 20 02000 00005", "rouse 02100", "nothing"]
+        self.assertTrue(agc.pulse("timer") == ["tick"] and agc.pulse("timer", keys, keys) == ["tick"])
+        self.assertTrue(agc.pulse("key", keys) == ["novac 20 02000 00005", "rouse 02100"] and agc.pulse("radar", keys) == [])
+        self.assertEqual(agc.pulse("radar", radar="list 16250 37777 77777"), ["list 16250 37777 77777"])
+        self.assertEqual(agc.pulse("key", ["findvac 01 00001 00000"] * 4), ["findvac 01 00001 00000"] * 4)
+        self.assertEqual(self.raised(AgcError, lambda: agc.pulse("key", ["nothing"] * 5)), "a pulse: key has to have 1 to 4 lines, and has 5")
+        self.assertEqual(self.raised(AgcError, lambda: agc.pulse("bell")), "a line is timer, key or radar, and not 'bell'")
+        told = self.raised(AgcError, lambda: agc.pulse("key", "tick"))
+        self.assertEqual(told, "key, action 1: 'tick': an action is nothing, or begins with novac, findvac, rouse or list")
+
+    def test_keys_are_known(self):
+        for call, told in [
+            (lambda: Clock({"stael": 15}), "a timetable has no key 'stael': is it 'steal'?"),
+            (lambda: Clock({"job": [{"at": "04000", "costs": 1}]}), "job 1 has no key 'costs': is it 'cost'?"),
+            (lambda: Clock({"job": [{"at": "04000"}]}), "job 1 has to have 'cost'"),
+            (lambda: Clock({"event": [{"at": 0, "do": "tick"}, {"do": "tick"}]}), "event 2 has to have 'at'"),
+            (lambda: Clock({"steal": [{"from": 0, "to": 9}]}), "steal 1 has to have 'percent'"),
+            (lambda: Clock({"steal": 1.5}), "a number has to be an int, and 1.5 is of type float"),
+            (lambda: Clock({"steal": "15"}), "steal has to be a list of dicts, and '15' is of type str"),
+            (lambda: Clock({"job": [{"at": "04000", "cost": 0.29}]}), "a number has to be an int, and 0.29 is of type float"),
+            (lambda: Clock({"job": {"at": "04000", "cost": 1}}), "job has to be a list of dicts, and {'at': '04000', 'cost': 1} is of type dict"),
+            (lambda: Clock([]), "a timetable has to be a dict, and [] is of type list"),
+            (lambda: Machine(plan={"tasks": []}), "a plan has no key 'tasks': is it 'task'?"),
+            (lambda: Machine(plan={"task": [{"at": 1, "bank": 5}]}), "task 1 of the plan has to have 'action'"),
+            (lambda: Machine(plan={"task": [{"at": 1, "bank": 5, "action": 7}]}), "task 1 of the plan: action has to be a line or a list of lines, and 7 is of type int"),
+            (lambda: Machine(plan={"phase": [{"group": 1, "phase": 1}, {"group": 1}]}), "phase 2 of the plan has to have 'phase'"),
+            (lambda: Machine(plan={"phase": [5]}), "phase 1 of the plan has to be a dict, and 5 is of type int"),
+        ]:
+            found = self.raised(TypeError if "of type" in told else ValueError, call)
+            self.assertEqual(found, told)
+        # A whole scenario stands for its plan and for its timetable.
+        scenario = {"title": "a landing", "sets": 7, "seconds": 60, **PLAN, **SERVICER}
+        self.assertTrue(Clock(scenario).lasts == 6000 and Machine(plan=scenario).ask("tick").text == "tick")
+
+    def test_a_fault_names_its_row(self):
+        row, entry = {"at": "02000", "bank": "00005", "action": "nothing"}, {"group": 1, "phase": 1}
+        others = [{**row, "at": 0o2000 + k} for k in range(1, 40)]
+        for call, told in [
+            (lambda: Machine(plan={"task": [{**row, "at": "00000"}, row]}), "task 1 of the plan, at: '00000': an address is five octal digits, 00001 to 37777"),
+            (lambda: Machine(plan={"task": [row, {**row, "bank": 32768}, row]}), "task 2 of the plan, bank: 32768: a word is five octal digits, 00000 to 77777"),
+            (lambda: Machine(plan={"task": [row, *others, row, row]}), "task 41: a task has two rows of the plan"),
+            (lambda: Machine(plan={"task": others, "phase": [entry, {**entry, "phase": 128}]}), "phase 2 of the plan: phase is 128, and may be 1 to 127"),
+            (lambda: Machine(sets=9), "a machine: sets is 9, and may be 7 to 8"),
+            (lambda: Machine(plan={"task": [{**row, "action": []}]}), "task 1 of the plan: action has to have 1 to 4 lines, and has 0"),
+            (lambda: Clock({"seed": 0}), "a timetable: seed is 0, and may be 1 to 2147483646"),
+            (lambda: Machine(power=["77777"] * 11), "there have to be 12 words, and these are 11"),
+            (lambda: Clock({"steal": 101}), "a timetable: steal is 101, and may be 0 to 100"),
+            (lambda: Clock({"job": [{"at": 1, "cost": {"from": 0, "to": 5}}], "seed": 1}), "job 1: cost: from is 0, and may be 1 to 1000000"),
+            (lambda: Clock.of_state({"timetable": {}, "at": [1]}), "a clock's state has fourteen numbers of 32 bits"),
+            (lambda: Machine(plan={"phase": [entry, {**entry, "group": 2}, entry]}), "phase 3: a group's phase has two entries of the plan"),
+            (lambda: Clock({"job": [{"at": k, "cost": 1} for k in (1, 2, 3, 2, 1)]}), "job 4: one address has two costs"),
+            (lambda: Clock({"steal": [{"from": 9, "to": 12, "percent": 1}, {"from": 0, "to": 10, "percent": 1}]}), "steal 2: two rows of stolen time hold at one time"),
+        ]:
+            found = self.raised(AgcError, call)
+            self.assertEqual(found, told)
+
+    def test_foreign_words_have_no_scene(self):
+        words = [*Machine().words]
+        self.assertEqual(agc.scene_of(words).running, 0)
+        for place, bits in [(11, 0o1001), (89, 0o14), (129, 5), (90, 1), (3, 32768)]:
+            self.assertNotIn("scene", self.raised(AgcError, lambda: agc.scene_of([*words[:place], bits, *words[place + 1:]])))
+        self.raised(AgcError, lambda: agc.scene_of(words[:131]))
+        self.raised(AgcError, lambda: agc.scene_of([]))
+
+    def test_machines_and_clocks_are_kept(self):
+        """What is kept goes on as what was kept does, and leaves it alone."""
+        machine, clock = halfway()
+        was = machine.words, machine.moment, machine.totals, clock.time, clock.given
+        wanted = [(str(asked), str(step)) for asked, step in machine.copy().run(clock.copy(), 700)]
+        self.assertTrue(len(wanted) > 700 and machine.totals.alarms != (0, 0, 0))
+        for name, kept in KEPT.items():
+            other, its = kept(machine), kept(clock)
+            self.assertTrue((other.words, other.moment, other.totals, its.time, its.given) == was and other.sets == 8, name)
+            self.assertEqual([(str(asked), str(step)) for asked, step in other.run(its, 700)], wanted, name)
+            self.assertEqual((machine.words, machine.moment, machine.totals, clock.time, clock.given), was, name)
+        for change in ({"words": [0] * 144}, {"moment": [0] * 144}, {"totals": [-1, [0, 0, 0], 0]}):
+            self.raised(AgcError, lambda: Machine.of_state({**machine.state, **change}))
+        many = Machine.of_state({**machine.state, "totals": [2**40 + 5, [0, 0, 0], 0]})
+        self.assertIn("\nSERVED 1099511627781\n", many.report())
+        self.raised(ValueError, lambda: Machine.of_state({"sets": 8}))
+        self.raised(AgcError, lambda: Clock.of_state({**clock.state, "at": [2**32] + [0] * 12}))
+        self.assertIs(type(pickle.loads(pickle.dumps(machine.totals))), agc.Totals)
+
+    def test_clocks_are_kept_after_each_request(self):
+        """They go on as one that isn't: after a tick there is still the look at NEWJOB."""
+        wanted = [(str(asked), str(step)) for asked, step in Machine(plan=TAKEN_OVER).run(Clock(TAKING_OVER), 20)]
+        machine, clock, found = Machine(plan=TAKEN_OVER), Clock(TAKING_OVER), []
+        while one := next(machine.run(clock, 20 - clock.time), None):
+            found.append((str(one[0]), str(one[1])))
+            machine, clock = Machine.of_state(machine.state), Clock.of_state(clock.state)
+        self.assertTrue(found == wanted and ("change", "runs 2") in wanted and ("phase 1 1", "phased") in wanted, (found, wanted))
+
+    def test_an_alarm_moves_what_counts_from_it(self):
+        """The events of a clock, and of none that was copied before."""
+        key = {"name": "key", "after": "1202", "at": 10, "do": "phase 1 1"}
+        machine = Machine()
+        clock = Clock({"event": [{"at": 5, "do": ["novac 20 04000 00005"] * 8}, key, {"after": "key", "at": 5, "do": "phase 1 2"}]})
+        self.assertEqual(len([*machine.run(clock, 4)]), 4)
+        other, its = machine.copy(), clock.copy()
+        self.assertTrue(len([*machine.run(clock, 4)]) == 12 and clock.state["alarms"] == {"1202": 5} and its.state["alarms"] == {})
+        again = Clock.of_state(clock.state)
+        self.assertEqual(clock.copy().state, clock.state)
+        for one, timer in [(machine.copy(), again), (machine, clock), (other, its)]:
+            found = [(timer.time, str(asked)) for asked, _ in one.run(timer, 20) if asked.name == "phase"]
+            self.assertEqual(found, [(15, "phase 1 1"), (20, "phase 1 2")])
+        old = {name: it for name, it in clock.state.items() if name != "alarms"}
+        self.assertEqual(Clock.of_state(old).state["alarms"], {})
+        self.raised(AgcError, lambda: Clock.of_state({**old, "alarms": {"1202": 8640001}}))
+        self.raised(ValueError, lambda: Clock.of_state({**old, "alarms": {"1204": 1}}))
+        self.raised(AgcError, lambda: Clock({"event": [{"at": 1, "after": "1204", "do": "tick"}]}))
+
+    def test_a_clock_is_changed(self):
+        """What isn't named stays, lots go on unless a seed is named, and what counts from an alarm still does."""
+        job, event = [{"at": "04000", "cost": {"from": 1, "to": 9}}], [{"at": 0, "do": "novac 20 04000 00005"}]
+        machine, clock = Machine(), Clock({"seed": 5, "job": job, "event": event})
+        self.assertEqual([str(it) for it, _ in machine.run(clock, 1)], ["novac 20 04000 00005", "tick"])
+        lot = 48271 * 5
+        clock.change({"steal": 10})
+        self.assertEqual((clock.state["at"][-1], clock.time, clock.state["timetable"]["job"]), (lot, 1, job))
+        clock.change({"seed": 9, "event": [{"at": 3, "do": "phase 1 1"}]})
+        self.assertTrue(clock.state["at"][-1] == 9 and "phase 1 1" in [str(it) for it, _ in machine.run(clock, 5)])
+        was = clock.state
+        self.raised(ValueError, lambda: clock.change({"stael": 15}))
+        self.raised(AgcError, lambda: clock.change({"steal": 101}))
+        self.assertEqual(clock.state, was)
+
+    def test_threads_take_turns(self):
+        """Six threads ask one machine: each request is served, and counted once."""
+        machine, steps = Machine(), [[] for _ in range(6)]
+
+        def work(k):
+            for _ in range(500):
+                steps[k] += [machine.ask("phase 1 1" if k < 2 else "findvac 20 02000 00005"), machine.ask("tick")]
+
+        switch = sys.getswitchinterval()
+        sys.setswitchinterval(1e-6)
+        threads = [threading.Thread(target=work, args=(k,)) for k in range(6)]
+        for it in threads:
+            it.start()
+        for it in threads:
+            it.join()
+        sys.setswitchinterval(switch)
+        told = sum(map(len, steps)), sum(it.alarm == 0o1201 for some in steps for it in some)
+        self.assertTrue((machine.totals.served, machine.totals.alarms[0]) == told == (6000, 2000 // 6), machine.totals)
+
+    def test_messages_can_be_shown(self):
+        """What is out of range is named with its number and its range, and a line is explained as `agc_watch check` explains it."""
+        machine, row = Machine(), {"at": 1, "bank": 5, "action": ["nothing", "tick"]}
+        for call, told in [
+            (lambda: machine.ask("novac", 0o40, 0o2000, 5), "priority is 40 (octal), and may be 1 to 37"),
+            (lambda: machine.ask("novac", 1, 0, 5), "address is 0 (octal), and may be 1 to 37777"),
+            (lambda: machine.ask("findvac", 1, 1, 32768), "word is 100000 (octal), and may be 0 to 77777"),
+            (lambda: machine.ask("list", 16251, 1, 1), "delay is 16251, and may be 1 to 16250"),
+            (lambda: machine.ask("phase", 7, 1), "group is 7, and may be 1 to 6"),
+            (lambda: machine.ask("novac", 2**32 + 1, 1, 1), "priority is 40000000001 (octal), and may be 1 to 37"),
+            (lambda: machine.ask(""), "'': a line may not be empty"),
+            (lambda: machine.ask("tick\r"), "'tick\\r': a line ends with LF alone, not with CR LF"),
+            (lambda: machine.ask("novac 20"), "'novac 20': it has the form \"novac P A W\", with single spaces"),
+            (lambda: machine.ask("novac 20 2000 00005"), "'novac 20 2000 00005': an address is five octal digits, 00001 to 37777"),
+            (lambda: machine.ask("prio", 7, 8), "'prio': no request of this name has 2 numbers"),
+            (lambda: Machine(words=[0] * 131), "there have to be 132 words, and these are 131"),
+            (lambda: Machine(plan={"task": [row]}),
+             "task 1 of the plan, action 2: 'tick': an action is nothing, or begins with novac, findvac, rouse or list"),
+        ]:
+            found = self.raised(AgcError, call)
+            self.assertEqual(found, told)
+        told = "what a clock is for has to be a Machine, and None is of type NoneType"
+        self.assertTrue(self.raised(TypeError, lambda: Clock().next(None)) == told == self.raised(TypeError, lambda: Clock().served(None, None)))
+        self.raised(TypeError, lambda: machine.run(None, 5))
+        self.raised(TypeError, lambda: machine.ask("novac", 1.0, 1, 1))
+        machine.ask("findvac 20 02000 00005")
+        self.assertEqual(repr(machine), "<Machine: job 1 runs; jobs: 1, tasks: 0, alarms: 0>", repr(machine))
+        other = pickle.loads(pickle.dumps(AgcError(Code.NOT_SPELLED, "'tock'")))
+        self.assertTrue((other.code, str(other)) == (Code.NOT_SPELLED, "'tock'") and agc.Lacking is AgcError)
+
+    def test_a_wrong_library_is_told(self):
+        for named, part in [
+            ("/nowhere", "OSError: AGC_LIBRARY names /nowhere, which can't be loaded: "),
+            (HERE, f"OSError: AGC_LIBRARY names {HERE}, which can't be loaded: "),
+            ("libc.so.6", "OSError: AGC_LIBRARY names libc.so.6, which can't be loaded: "),
+        ]:
+            environment = {**os.environ, "AGC_LIBRARY": named}
+            ran = subprocess.run([sys.executable, "-c", "import agc"], env=environment, capture_output=True, text=True)
+            self.assertTrue(ran.returncode == 1 and part in ran.stderr, f"{named}: {ran.stderr}")
+
+    def test_python_3_8_will_do(self):
+        """It has no `list[int]` but in hints, which aren't evaluated."""
+        for it in module().body:
+            parts = ast.walk(it.value) if isinstance(it, (ast.Assign, ast.AnnAssign)) else []
+            of = {one.value.id for one in parts if isinstance(one, ast.Subscript) and isinstance(one.value, ast.Name)}
+            self.assertTrue(not of & {"dict", "list", "tuple", "type"}, f"line {it.lineno}")
+
+    def test_each_function_is_hinted(self):
+        for it in (one for one in ast.walk(module()) if isinstance(one, ast.FunctionDef)):
+            arguments = [*it.args.args, *filter(None, [it.args.vararg])]
+            without = [one.arg for one in arguments if one.annotation is None and one.arg not in ("self", "cls")]
+            self.assertTrue(it.returns is not None and not without, f"{it.name} lacks hints")
+
+    def test_a_star_brings_the_modules_own_names(self):
+        names = {}
+        exec("from agc import *", names)
+        self.assertTrue({"Machine", "Clock", "Kind", "AgcError", "library"} <= set(names))
+        self.assertTrue(not {"os", "ctypes", "operator", "Structure", "Any", "Iterable"} & set(names))
+
+    def test_versions(self):
+        self.assertTrue(agc.__version__.count(".") == 2 and agc.code_text(agc.Code.OK) == "the call was served")
+        self.assertEqual(agc.reply_text(agc.Kind.ALARMED), "a table is full: an alarm")
 
 
-def each_function_is_hinted():
-    for it in (one for one in ast.walk(module()) if isinstance(one, ast.FunctionDef)):
-        arguments = [*it.args.args, *filter(None, [it.args.vararg])]
-        without = [one.arg for one in arguments if one.annotation is None and one.arg not in ("self", "cls")]
-        assert it.returns is not None and not without, f"{it.name} lacks hints"
-
-
-def a_star_brings_the_modules_own_names():
-    names = {}
-    exec("from agc import *", names)
-    assert {"Machine", "Clock", "Kind", "AgcError", "library"} <= set(names)
-    assert not {"os", "ctypes", "operator", "Structure", "Any", "Iterable"} & set(names)
-
-
-def versions():
-    assert agc.__version__.count(".") == 2 and agc.code_text(agc.Code.OK) == "the call was served"
-    assert agc.reply_text(agc.Kind.ALARMED) == "a table is full: an alarm"
-
-
-def main():
-    failed = 0
-    for test in [
-        time_goes_on,
-        a_day_is_the_longest,
-        an_event_may_never_come,
-        an_event_may_come_at_the_start_alone,
-        bounds_refuse,
-        pulses_ask,
-        keys_are_known,
-        a_fault_names_its_row,
-        foreign_words_have_no_scene,
-        machines_and_clocks_are_kept,
-        clocks_are_kept_after_each_request,
-        an_alarm_moves_what_counts_from_it,
-        a_clock_is_changed,
-        threads_take_turns,
-        messages_can_be_shown,
-        a_wrong_library_is_told,
-        python_3_8_will_do,
-        each_function_is_hinted,
-        a_star_brings_the_modules_own_names,
-        versions,
-    ]:
-        try:
-            test()
-        except Exception as fault:
-            print(f"keeping.py: {test.__name__}: {type(fault).__name__}: {fault}")
-            failed = 1
-    return failed
-
-
-sys.exit(main())
+if __name__ == "__main__":
+    unittest.main()

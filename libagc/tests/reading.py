@@ -1,12 +1,11 @@
 """The scene of the library, beside the words as they are read here once more; and what `agc_explain` tells
 of words that were changed at random: beside `agc_check`, beside the rules of agc.h as tools/plain/words.py has them, and
-whether what would have to stand there is what stood there. Prints what doesn't hold.
-
-    reading.py SEED COUNT
+whether what would have to stand there is what stood there.
 """
 
 import os
 import sys
+import unittest
 
 from agc import Code, Machine, Scene, finding_of, library, place_name, scene_of
 from agc import WORDS, c_uint16
@@ -14,6 +13,8 @@ from agc import WORDS, c_uint16
 sys.path.insert(0, f"{os.path.dirname(os.path.realpath(__file__))}/../../tools")
 from plain.make import Dice
 from plain.words import AREAS, FREE, MOST_POSITIVE, SETS, Seat, first_broken, task_count
+
+SEED, COUNT = 1969, 4000
 
 
 def array_of(words):
@@ -115,27 +116,25 @@ def explains(words, other, sets, chance):
     return 1
 
 
-def main():
-    seed, count = map(int, sys.argv[1:])
-    rules, faults = set(), 0
-    for sets in (7, 8):
-        last_set_is_named(sets)
-        machine = Machine(sets)
-        for k in range(count):
-            chance = Dice(f"{seed} {k // 500}") if k % 500 == 0 else chance
-            machine.ask(chance.lines(1)[0])
-            words = machine.words
-            if k % 40 == 0:
-                assert read(words, sets) == scene_of(words), words
-                out_of_range(words, sets)
-            other = changed(chance, words)
-            faults += explains(words, other, sets, chance)
-            rules |= {finding_of(other).rule} if finding_of(other) else set()
-    if rules != set(range(1, 20)) or faults < count // 2:
-        print(f"reading: of {faults} findings these rules didn't come up: {set(range(1, 20)) - rules}")
-        return 1
-    return 0
+class Reading(unittest.TestCase):
+    def test_random_words(self):
+        rules, faults = set(), 0
+        for sets in (7, 8):
+            last_set_is_named(sets)
+            machine = Machine(sets)
+            for k in range(COUNT):
+                chance = Dice(f"{SEED} {k // 500}") if k % 500 == 0 else chance
+                machine.ask(chance.lines(1)[0])
+                words = machine.words
+                if k % 40 == 0:
+                    self.assertEqual(read(words, sets), scene_of(words), words)
+                    out_of_range(words, sets)
+                other = changed(chance, words)
+                faults += explains(words, other, sets, chance)
+                rules |= {finding_of(other).rule} if finding_of(other) else set()
+        self.assertEqual(rules, set(range(1, 20)))
+        self.assertGreaterEqual(faults, COUNT // 2)
 
 
 if __name__ == "__main__":
-    sys.exit(main())
+    unittest.main()

@@ -94,8 +94,8 @@ static void serve(const char *line) {
     memset(fired, MARK, sizeof fired);
     memset(was, MARK, sizeof was);
     memset(moment, MARK, sizeof moment);
-    AgcStep it = (trusted ? agc_step_trusted : agc_step)(words, sets, row_count ? rows : NULL, row_count,
-                                                         entry_count ? entries : NULL, entry_count, &request, fired, moment);
+    AgcPlan plan = {row_count ? rows : NULL, row_count, entry_count ? entries : NULL, entry_count};
+    AgcStep it = (trusted ? agc_step_trusted : agc_step)(words, sets, &plan, &request, fired, moment);
     want(it.code == AGC_OK, line);
     want(!memcmp(fired + it.fired, was + it.fired, sizeof was - it.fired * sizeof *was), "places behind those that fired");
     want((it.action > 0) == (it.reply == AGC_TICK_ALARMED) && it.action <= AGC_ACTIONS, "an action's number");
@@ -122,7 +122,8 @@ static void start(uint32_t wanted) {
 }
 
 static void end(void) {
-    want(agc_plan_check(rows, row_count, entries, entry_count) == AGC_OK, "the plan");
+    AgcPlan plan = {rows, row_count, entries, entry_count};
+    want(agc_plan_check(&plan) == AGC_OK, "the plan");
     for (int place = 132; sets == 7 && place < AGC_WORDS; place++) want(words[place] == 0xffff, "the words behind");
     report(words, &totals);
 }

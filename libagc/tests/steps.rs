@@ -170,8 +170,8 @@ fn refuses() {
     lacks(Plan::new().phase(1, 1, "", "novac 01 00001 00000"), NOT_SPELLED);
     lacks(Plan::new().task(1, 1, &["nothing"; 5]), PLAN_RANGE);
     lacks(Plan::new().task(1, 1, &[]), PLAN_RANGE);
-    lacks(Machine::new(7, Plan::new().task(16384, 1, &["nothing"]).unwrap()), PLAN_RANGE);
-    lacks(Machine::new(7, Plan::new().phase(1, 128, area, "").unwrap()), PLAN_RANGE);
+    lacks(Plan::new().task(16384, 1, &["nothing"]), PLAN_RANGE);
+    lacks(Plan::new().phase(1, 128, area, ""), PLAN_RANGE);
     let twice = Plan::new().task(1, 1, &["nothing"]).unwrap().task(1, 1, &[area]).unwrap();
     lacks(Machine::new(7, twice), TASK_TWICE);
     let twice = Plan::new().phase(1, 1, area, "").unwrap().phase(1, 1, "", "").unwrap();
@@ -211,7 +211,8 @@ fn messages(machine: &mut Machine) {
     let action = r#"task 1, action 2: "tick": an action is nothing, or begins with novac, findvac, rouse or list"#;
     assert_eq!(of(Plan::new().task(1, 1, &["nothing", "tick"])), action);
     let rows = (1..4).fold(Plan::new(), |plan, it| plan.task(it, 1, &["nothing"]).unwrap());
-    assert_eq!(of(rows.clone().task(0, 1, &["nothing"])), "task 4: a number of the plan is out of its range");
+    assert_eq!(of(rows.clone().task(0, 1, &["nothing"])), "task 4: address is 0 (octal), and may be 1 to 37777");
+    assert_eq!(of(rows.clone().phase(1, 128, "", "")), "phase 1: phase is 128, and may be 1 to 127");
     assert_eq!(of(rows.phase(1, 1, "", "").unwrap().phase(1, 1, "", "")), "phase 2: a group's phase has two entries of the plan");
     let words = Machine::from_words(&[0; 131], Plan::new()).unwrap_err().to_string();
     assert_eq!(words, "there have to be 132 words, and these are 131");

@@ -121,13 +121,13 @@ def rows_of_orders(hostile, room):
     """With --mode explore: an alarm of some orders, of the script, or of none; and what is undecided."""
     worker = '[[worker]]\nscript = [%s]\n'
     write(f"{room}/a-calm.toml", (worker % '"novac 20 02000 00005"') * 2)
-    write(f"{room}/b-key.toml", "no = 1\n")
+    write(f"{room}/b-key.toml", "unheard = 1\n")
     write(f"{room}/c-race.toml", (worker % ('"findvac 20 02000 00005", ' * 3 + '"end"')) * 2)
     write(f"{room}/d-script.toml", EIGHT_JOBS)
     status, text, _ = run_many(hostile, room, "--mode", "explore")
     head = "bench,status,a1201,a1202,a1203,jobs,areas,tasks,fault\n"
     wanted = (f"{head}a-calm,0,never,never,never,2,0,0,\n"
-              'b-key,1,,,,,,,"-:1: unknown key ""no"""\n'
+              'b-key,1,,,,,,,"-:1: unknown key ""unheard"""\n'
               "c-race,10,6,never,never,5,5,0,\nd-script,10,never,8,never,,,,\n")
     hostile.expect(f"many, of orders: status {status}, {text}", (status, text) == (1, wanted))
     write(f"{room}/told/obeying", OBEYING, 0o755)
@@ -201,7 +201,7 @@ def wrong_words(hostile, room):
     """No job at all, a folder or a program that isn't there: told before a row is written."""
     write(f"{room}/a.toml", "")
     for wanted, words in (
-        ((2, "argument --jobs: invalid jobs value: '0'"), (room, "--jobs", "0")),
+        ((2, "many: error: --jobs: N is 1 or more"), (room, "--jobs", "0")),
         ((4, f"many: there is no folder {room}/none"), (f"{room}/none",)),
         ((4, f"many: there is no program {room}/none: tools/prove builds it"), (room, "--program", f"{room}/none")),
     ):

@@ -7,11 +7,12 @@ import { Clock, start } from "../../libagc/js/machine.js";
 import { Names } from "../../web/account.js";
 import { readBench, requestsOf } from "../../web/bench.js";
 import { Colours } from "../../web/colours.js";
-import { hitAt, pictureOf, xOfRow } from "../../web/drawing.js";
+import { pictureOf } from "../../web/drawing.js";
 import { Scale } from "../../web/drawing-scale.js";
 import { svgOf } from "../../web/drawing-svg.js";
 import { textWidth } from "../../web/drawing-text.js";
-import { budgetOf, workOf } from "../../web/drawing-work.js";
+import { hitAt, xOfRow } from "../../web/drawing-words.js";
+import { budgetOf, partAsked, workOf } from "../../web/work.js";
 import { drawn, moduleBytes } from "../../web/picture.mjs";
 import { Run } from "../../web/run.js";
 import { faultsOf } from "./marks.mjs";
@@ -32,7 +33,7 @@ function runOf(text) {
   for (const [line, who] of requestsOf(bench)) run.ask(line, who);
   if (bench.seconds !== undefined) {
     const { seconds, seed, steal, job, event } = bench;
-    run.head.clock = new Clock({ seconds, seed, steal, job, event });
+    run.startClock(new Clock({ seconds, seed, steal, job, event }));
     run.askByClock(1_000_000, (it) => (it === null ? "the clock" : `event ${bench.event[it].name ?? it + 1}`));
   }
   return run;
@@ -53,6 +54,9 @@ test("work is counted", () => {
   const at = [0, 1, 2, 11, 20, 21].map((tick) => work?.waiting[run.rowAtTime(tick, run.count)]);
   expect("work that waits", at, [0, 1000, 950, 500, 50, 0]);
   expect("the most, and no table was full", [work?.most, work?.full], [1000, Infinity]);
+  const lots = runOf('seconds = 2\nseed = 1\n[[job]]\nat = "04000"\ncost = 10\n[[job]]\nat = "05000"\ncost = { from = 10, to = 20 }\n'
+    + '[[event]]\nat = 0\ndo = ["novac 20 04000 00005", "novac 10 05000 00005"]\n');
+  expect("a cost by lot counts as its mean", workOf(lots, lots.count)?.waiting[2], 2500);
   expect("no costs, no work", workOf(script(["tick"]), 1), null);
 });
 
@@ -76,7 +80,7 @@ test("alarms sweep work", () => {
   const work = workOf(run, run.count);
   const [alarm] = run.alarms;
   expect("the alarm's row", alarm, 8);
-  expect("work before it, swept, and after it", [work?.waiting[alarm - 1], work?.swept.get(alarm), work?.waiting[alarm]], [7000, 7000, 0]);
+  expect("work before it, and after it", [work?.waiting[alarm - 1], work?.waiting[alarm]], [7000, 0]);
   expect("a table is full from here on", work?.full, 7000);
 });
 
@@ -90,7 +94,22 @@ test("budgets are added up", () => {
   expect("from 10 to 20 s", shares(1000, 2000), [[85, 12], 15, 112]);
   expect("a part of a period", shares(1010, 1040), [[85, 12], 15, 112]);
   expect("after the alarm", shares(20_000, 30_000), [[85], 15, 100]);
+  const upTo = budgetOf(run, run.count, partAsked(run, { from: 0, to: 4500 }));
+  expect("up to the alarm, without what its restart asks for", [upTo?.jobs.map((it) => it.share), upTo?.total], [[85, 12], 112]);
   expect("stolen in half of the time", budgetOf(runOf(WORK.replace("steal = 50", "steal = [{ from = 0, to = 100, percent = 50 }]")), 200, { from: 0, to: 200 })?.stolen, 25);
+});
+
+/** 85 % of two seconds are 1.7 s, of which two displays take 0.24 s: 1.46 s are left. What waits as long as 1 s says so. */
+test("the picture says why its alarm came", () => {
+  const run = runOf(readFileSync(new URL("examples/landing.toml", TOP), "utf8"));
+  const told = (/** @type {string[]} */ parts) => pictureOf(run, run.count, { width: 900, to: 4500, parts }).marks.flatMap((it) => (it.kind === "text" ? [it.text] : []));
+  const notes = ["each SERVICER adds 1.7 s of work, but only 1.5 s gets done", "all 5 taken:", "5 SERVICERs"];
+  expect("what is said", notes.map((it) => told(["alarms", "work", "sets", "notes"]).includes(it)), [true, true, true]);
+  expect("who waits, and how long", told(["sets", "notes"]).some((it) => /^SERVICER waits [0-9]+([.][0-9])? s$/.test(it)), true);
+  // (in a view that begins long before, it doesn't hold)
+  const apollo = runOf(readFileSync(new URL("examples/apollo-11.toml", TOP), "utf8"));
+  expect("a steady part isn't explained", pictureOf(apollo, apollo.count, { width: 900, parts: ["work", "notes"] }).marks.filter((it) => it.kind === "text" && it.text.includes("done")), []);
+  expect("without notes", told(["alarms", "work", "sets"]).filter((it) => notes.includes(it) || it.includes("waits")), []);
 });
 
 /** By requests each has a column, and one more what its restart swept. */
@@ -101,6 +120,15 @@ test("requests have columns", () => {
   expect("keys", [0, 1, 2, 3, 4, 4.9].map((place) => scale.keyAt(place)), [1, 3, 4, 5, 7, 7]);
   expect("the end", scale.end, 5);
   expect("ticks of a bench", [20, 120, 121].map((count) => new Scale(script(Array(count).fill("tick")), count).isTime), [false, false, true]);
+});
+
+/** One of these runs has a restart with its second request: what follows stands in the same column of both, and its end, too. */
+test("a run before has the columns of this one", () => {
+  const [restarted, plain] = ["restart", "change"].map((it) => script(["novac 20 04000 00005", it, "novac 20 04100 00005"]));
+  for (const [run, other, wanted] of /** @type {[Run, Run, number[]][]} */ ([[plain, restarted, [0, 1, 2, 3, 4]], [restarted, plain, [0, 1, 3, 4, 5]]])) {
+    const scale = new Scale(run, 3).ofOther({ run: other, count: 3 });
+    expect("columns", [...[0, 1, 2, 3].map((row) => scale?.placeOf(row)), scale?.end], wanted);
+  }
 });
 
 /** The second task of the tick finds no core set: what the first one established is seen nowhere but in that moment. */
@@ -140,13 +168,23 @@ test("texts have room", () => {
   expect("a name that has none", named("W".repeat(90)).includes("W".repeat(90)), false);
 });
 
+/** 320 points are 32 columns of 10 for 31 requests, where a digit of 7.68 has room in the middle; for 40 a column has 7.8, and it needs 2 more. */
+test("a narrow block has its job's number", () => {
+  const texts = (/** @type {number} */ count) => {
+    const run = script(["novac 20 02000 00005", "end", ...Array(count - 2).fill("change")]);
+    return pictureOf(run, count, { width: 388, parts: ["sets"] }).marks.flatMap((it) => (it.kind === "text" && it.fill === "i0" ? [[it.text, it.x, it.anchor]] : []));
+  };
+  expect("31 requests", texts(31), [["1", 73, "middle"]]);
+  expect("40 requests", texts(40), []);
+});
+
 /** No text is smaller than 12 points, meets another one, or leaves the picture, and neither does any mark. */
 test("nothing meets", () => {
   const names = readdirSync(new URL("examples/", TOP)).filter((it) => it.endsWith(".toml"));
   for (const name of names) {
     const run = runOf(readFileSync(new URL(`examples/${name}`, TOP), "utf8"));
-    for (const view of [{ width: 960 }, { width: 360, high: 20 }, { width: 1900, text: 19, high: 40, opened: ["areas", "tasks"] },
-      { width: 700, parts: ["title", "events", "work", "sets", "strips", "before", "axis", "budget", "legend"], title: "A ".repeat(99), before: { run, count: run.count } }]) {
+    for (const view of [{ width: 960 }, { width: 360, high: 20 }, { width: 860, high: 40, to: 4500, parts: ["alarms", "work", "sets", "axis", "notes"] }, { width: 1900, text: 19, high: 40, opened: ["areas", "tasks"] },
+      { width: 700, parts: ["title", "events", "alarms", "work", "sets", "strips", "before", "axis", "budget", "notes", "legend"], title: "A ".repeat(99), before: { run, count: run.count } }]) {
       expect(`${name}, ${view.width} points wide`, faultsOf(pictureOf(run, run.count, view)), []);
     }
   }

@@ -37,8 +37,7 @@ function runOf(lines, more = "") {
 function clockedRun(bench) {
   const run = new Run(bench);
   const { seconds, seed, steal, job, event } = bench;
-  run.head.clock = new Clock({ seconds, seed, steal, job, event });
-  run.checkpoints = [run.head.copy()];
+  run.startClock(new Clock({ seconds, seed, steal, job, event }));
   return run;
 }
 
@@ -183,7 +182,7 @@ test("differences are told", () => {
     for (const cost of costs) change({ job: [{ ...bench.job[0], cost }] });
   }
   const told = "This run differs from its document: ";
-  const work = "WORK costs 10 until 0.50 s, then 40 until 1.00 s, then 10 cs (document: 10 cs)";
+  const work = "WORK costs 0.10 s until 0.50 s, then 0.40 s until 1.00 s, then 0.10 s (document: 0.10 s)";
   expect("costs", differencesOf(run), `${told}${work}.`);
   change({ steal: stolenSince(0, 100, [{ from: 100, to: 200, percent: 30 }]), event: bench.event.slice(0, 1) });
   expect("all that differs", differencesOf(run), `${told}steal 0 until 1.00 s, then 30 % (document: 0 %); ${work}; without B.`);
@@ -203,9 +202,8 @@ test("parts are seen", () => {
     expect(`${from} to ${to} are seen`, [scale.from, scale.to], wanted);
   }
   scale.see(20, 60);
-  short.like(scale);
-  other.like(scale);
-  expect("what another scale sees", [short.isWhole, other.from, other.to], [true, 20, 60]);
+  const same = scale.ofOther(other);
+  expect("what another scale sees", [scale.ofOther(short), same?.from, same?.to], [null, 20, 60]);
   expect("rows at places", [scale.rowAt(0), scale.rowAt(3.7), scale.rowAt(100), short.rowAt(1.9)], [0, 3, 100, 1]);
 });
 
@@ -268,8 +266,8 @@ test("accounts are given", () => {
     const run = new Run(readBench("seconds = 1\n"));
     for (const line of [...lines, ...seven]) run.ask(line, "the clock");
     const [shown] = run.show(run.count, run.count);
-    const [first] = accountOf(run, shown, new Names(run.bench)).lines;
-    expect(`an alarm after ${lines.length} requests`, first[2], ` Since the beginning 7 jobs began and 0 ended, and the computer was ${wanted}`);
+    const told = accountOf(run, shown, new Names(run.bench)).lines[8];
+    expect(`an alarm after ${lines.length} requests`, told[0], `Since the beginning 7 jobs began and 0 ended, and the computer was ${wanted} `);
   }
   const power = ["77600", "00177", "77776", "00002", ...Array(4).fill(["77777", "00000"]).flat()];
   const run = new Run(readBench(`power = ${JSON.stringify(power)}\n`));

@@ -5,17 +5,15 @@ import assert from "node:assert/strict";
 import { spawnSync } from "node:child_process";
 import { existsSync } from "node:fs";
 import { test } from "node:test";
-import { fileURLToPath } from "node:url";
 import { start } from "../../libagc/js/machine.js";
 import { faultsOf } from "./marks.mjs";
+import { TOP, WATCH, python } from "./programs.mjs";
 import { drawn, moduleBytes } from "../../web/picture.mjs";
 import { Rows } from "../../web/run.js";
 import { octal } from "../../web/words.js";
 
 await start(await moduleBytes());
 
-const TOP = fileURLToPath(new URL("../../", import.meta.url));
-const PROGRAM = `${TOP}crates/agc_watch/out/agc_watch`;
 const [MANY, TRACED] = [300, 60];
 
 /** So wide that a centisecond of the longest of them has four points, and a request twenty. */
@@ -33,13 +31,6 @@ const READ = `import sys, json, xml.etree.ElementTree as tree
 found = [list(tree.fromstring(it.encode()).iter()) for it in json.load(sys.stdin)]
 print(json.dumps([[{"tag": it.tag.split("}")[1], "text": it.text or ""} for it in all] for all in found]))`;
 
-/** What a program of Python prints. @param {string} program @param {unknown} [given] */
-function python(program, given) {
-  const { status, stdout, stderr } = spawnSync("python3", ["-B", "-c", program], { cwd: TOP, input: JSON.stringify(given ?? null), encoding: "utf8", maxBuffer: 1e9 });
-  assert.equal(status, 0, stderr);
-  return JSON.parse(stdout);
-}
-
 /** A scenario with a title, and with names where it has none. @param {string} text @param {number} k */
 function named(text, k) {
   let next = k;
@@ -49,8 +40,8 @@ function named(text, k) {
 
 /** The rows of the document with a number, or null where it is refused. @param {number} k @param {string} text @param {import("../../web/run.js").Run | undefined} run */
 function rowsOf(k, text, run) {
-  if (k < TRACED && existsSync(PROGRAM)) {
-    const { status, stdout } = spawnSync(PROGRAM, ["trace", "--json"], { input: text, encoding: "utf8", maxBuffer: 1e9 });
+  if (k < TRACED && existsSync(WATCH)) {
+    const { status, stdout } = spawnSync(WATCH, ["trace", "--json"], { input: text, encoding: "utf8", maxBuffer: 1e9 });
     return status === 0 ? stdout.split("\n").filter((it) => it !== "").map((it) => JSON.parse(it)) : null;
   }
   if (run === undefined) return null;
@@ -101,7 +92,7 @@ function lackingOf(titles, rows, isTime) {
 }
 
 test("pictures have all that their rows have", () => {
-  const texts = python(MAKE).map((/** @type {string} */ it, /** @type {number} */ k) => (k % 2 ? named(it, k) : it));
+  const texts = python(["-c", MAKE]).map((/** @type {string} */ it, /** @type {number} */ k) => (k % 2 ? named(it, k) : it));
   const found = texts.map((/** @type {string} */ text) => {
     try {
       return drawn(text, { width: WIDTH, isEight: false });
@@ -109,7 +100,7 @@ test("pictures have all that their rows have", () => {
       return {};
     }
   });
-  const elements = python(READ, found.flatMap((/** @type {any} */ it) => it.svg ?? []));
+  const elements = python(["-c", READ], found.flatMap((/** @type {any} */ it) => it.svg ?? []));
   assert.ok(elements.length > 0.8 * MANY, `only ${elements.length} documents were drawn`);
   assert.deepEqual([...new Set(elements.flat().map((/** @type {any} */ it) => it.tag))].sort(), ["path", "pattern", "rect", "style", "svg", "text", "title"]);
   for (const [k, { picture }] of found.entries()) {

@@ -9,7 +9,7 @@ import { test } from "node:test";
 
 const TOP = fileURLToPath(new URL("../../", import.meta.url));
 const WORDS = "--noEmit --allowJs --checkJs --strict --target es2022 --module esnext --moduleResolution node --lib esnext,dom,dom.iterable".split(" ");
-const ROOTS = ["known.d.ts", "web/main.js", "web/picture.mjs", "libagc/js/browser.js", "same.ts"];
+const ROOTS = ["known.d.ts", "web/main.js", "web/picture.mjs", "libagc/js/browser.js", "declared/agc.d.ts"];
 
 // What tsc doesn't know: node, and what came after its release 4.8.
 const KNOWN = `declare module "node:*";
@@ -18,22 +18,9 @@ type Buffer = any;
 interface Array<T> { findLast(holds: (it: T, k: number) => boolean): T | undefined }
 `;
 
-// agc.d.ts beside the module: each export and each object is of the type that is declared, and nothing else is there but what
-// parts of the module call of each other.
-const SAME = `import * as made from "./libagc/js/agc.js";
-import type * as declared from "./declared/agc";
-type Objects<T> = { [name in keyof T]: T[name] extends abstract new (...given: any) => infer U ? U : T[name] };
-type Members<T> = T extends (...given: any) => infer U ? keyof NonNullable<U> : keyof T;
-type Made = Objects<typeof made>;
-type Declared = Objects<typeof declared>;
-type Undeclared = { [name in keyof Declared]: Exclude<Members<Made[name & keyof Made]>, Members<Declared[name]>> }[keyof Declared];
-export const types: Declared = {} as Made;
-export const exports: Record<Exclude<keyof Made, keyof Declared>, 1> = {};
-export const members: Record<Exclude<Undeclared & string, "enter" | "give" | "take">, 1> = {};
-`;
-
-// tsc reads a tag only where a comment or a line of it begins: what stands before the first one is left out.
-const BEFORE_TAGS = /\/\*\* [^@*]* (?=@(?:param|returns|type|template)\b)/g;
+// tsc reads a tag only where a line of a comment begins.
+const COMMENT_LINE = /^ *(?:\/\*)?\*.*/gm;
+const TAG = /(?<=[^*\n]) (?=@(?:param|returns|type|typedef|template|readonly|internal)\b)/g;
 
 const isThere = spawnSync("tsc", ["--version"]).status === 0;
 
@@ -44,11 +31,10 @@ test("types are as the comments say", { skip: !isThere && "there is no tsc" }, (
     for (const folder of ["web", "libagc/js"]) {
       for (const name of readdirSync(`${TOP}/${folder}`).filter((it) => /\.(m?js|d\.ts)$/.test(it))) {
         const to = name.endsWith(".d.ts") ? "declared" : folder;
-        writeFileSync(`${room}/${to}/${name}`, readFileSync(`${TOP}/${folder}/${name}`, "utf8").replace(BEFORE_TAGS, "/** "));
+        writeFileSync(`${room}/${to}/${name}`, readFileSync(`${TOP}/${folder}/${name}`, "utf8").replace(COMMENT_LINE, (it) => it.replace(TAG, "\n * ")));
       }
     }
     writeFileSync(`${room}/known.d.ts`, KNOWN);
-    writeFileSync(`${room}/same.ts`, SAME);
     const { status, stdout } = spawnSync("tsc", [...WORDS, ...ROOTS], { cwd: room, encoding: "utf8" });
     assert.deepEqual({ status, stdout }, { status: 0, stdout: "" });
   } finally {

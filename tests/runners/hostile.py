@@ -33,11 +33,11 @@ BENCHES = 300
 
 NO_MEMORY = (3, b"agc: no memory\n")
 NO_THREAD = (3, b"agc: no thread\n")
-INPUT = (4, b"agc: input\n")
-# Why standard output can't be written.
-BAD, FAILED, FULL = (
-    b": Bad file descriptor (os error 9)", b": Input/output error (os error 5)", b": No space left on device (os error 28)")
-NOT_TEXT = (1, b"agc: not text\n")
+# Why standard input can't be read, or standard output written.
+BAD, FAILED, FULL, FOLDER = (
+    b": Bad file descriptor (os error 9)", b": Input/output error (os error 5)", b": No space left on device (os error 28)",
+    b": Is a directory (os error 21)")
+NOT_TEXT = (1, b"agc: -: not text: it isn't UTF-8\n")
 DONE = (0, b"")
 
 # What `read_bench` may say of a text that is no bench.
@@ -114,6 +114,11 @@ def told(word, ran):
     name = f"{program_of(word)}: ".encode()
     line = b"agc: " + ran.stderr[len(name) :] if ran.stderr.startswith(name) else b"no name: " + ran.stderr
     return ran.returncode, line if ran.stderr else b""
+
+
+def unread(word, reason):
+    """How a program ends that can't read standard input for this reason, which agc doesn't tell."""
+    return 4, b"agc: " + (b"-" + reason if program_of(word) == "agc_watch" else b"input") + b"\n"
 
 
 def unwritten(word, reason=b""):
@@ -197,12 +202,12 @@ def reads(hostile):
     for word, text, whole in words(hostile):
         for k in range(1, whole.reads + 1):
             ended = hostile.run(word, text, fail_read=k)
-            hostile.expect(f"{word}, read {k}", ended.said == INPUT and not ended.text, ended)
+            hostile.expect(f"{word}, read {k}", ended.said == unread(word, FAILED) and not ended.text, ended)
         singly = hostile.run(word, text, most_read=1)
         hostile.expect(f"{word}, one byte a read", singly.said == DONE and singly.text == whole.text, singly)
         for k in (1, 2, singly.reads // 2, singly.reads):
             ended = hostile.run(word, text, most_read=1, fail_read=k)
-            hostile.expect(f"{word}, read {k} of one byte each", ended.said == INPUT and not ended.text, ended)
+            hostile.expect(f"{word}, read {k} of one byte each", ended.said == unread(word, FAILED) and not ended.text, ended)
 
 
 def writes(hostile):
@@ -231,10 +236,10 @@ def ends(hostile):
         closed = said_by(hostile, word, text, preexec_fn=lambda: os.close(1))
         hostile.expect(f"{word} without an output", closed == unwritten(word, BAD))
         folder = os.open("/", os.O_RDONLY)
-        hostile.expect(f"{word} from a folder", said_by(hostile, word, None, stdin=folder) == INPUT)
+        hostile.expect(f"{word} from a folder", said_by(hostile, word, None, stdin=folder) == unread(word, FOLDER))
         os.close(folder)
         closed = said_by(hostile, word, None, stdin=subprocess.DEVNULL, preexec_fn=lambda: os.close(0))
-        hostile.expect(f"{word} without an input", closed == INPUT)
+        hostile.expect(f"{word} without an input", closed == unread(word, BAD))
         small = said_by(hostile, word, text, preexec_fn=within_8_mib)
         hostile.expect(f"{word} in 8 MiB", small in {DONE, NO_MEMORY, NO_THREAD})
 

@@ -149,7 +149,7 @@ def names(browser, folder):
         for scheme in "light", "dark":
             browser.scheme(scheme)
             browser.show(path, SHOWN_REQUEST)
-            for opened in "", "open", "examples", "plan", "save", "help":
+            for opened in "", "open", "examples", "save", "help":
                 if opened:
                     browser.click(opened)
                     browser.value(DRAWN, True)
@@ -246,7 +246,7 @@ def calm(browser, folder):
         "document.getAnimations().length === 0 && Array.from(document.querySelectorAll('*')).every((it) =>"
         " parseFloat(getComputedStyle(it).transitionDuration) === 0)"))
     browser.value("window.drawn = 0; new MutationObserver(() => { window.drawn += 1; })"
-                  ".observe(document.getElementById('sentence'), { childList: true })")
+                  ".observe(document.getElementById('sentence'), { childList: true, characterData: true, subtree: true })")
     begun = time.monotonic()
     browser.click("run")
     time.sleep(1)

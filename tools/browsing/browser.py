@@ -26,18 +26,11 @@ def wait(holds):
 
 
 # What the page shows.
-SHOWN = """(() => {
-  const texts = (id) => Array.from(document.getElementById(id).children, (it) => it.innerText);
-  const row = document.querySelector('tr[aria-current]');
-  return {
-    sentence: document.getElementById('sentence').textContent,
-    cells: row ? Array.from(row.children, (it) => it.textContent) : [],
-    sets: texts('sets'), areas: texts('areas'), tasks: texts('tasks'), phases: texts('phases'),
-    codes: texts('codes'), account: document.getElementById('told').innerText,
-    wide: document.documentElement.scrollWidth, broken: window.broken || [],
-    images: document.images.length, scripts: document.scripts.length
-  };
-})()"""
+SHOWN = """({
+  sentence: document.getElementById('sentence').textContent,
+  sets: Array.from(document.getElementById('sets').children, (it) => it.innerText),
+  wide: document.documentElement.scrollWidth, broken: window.broken || [], images: document.images.length
+})"""
 
 # Heard from the beginning: what the policy refuses, and what goes wrong.
 HEARD = """window.broken = [];
@@ -135,11 +128,6 @@ class Browser:
     def shown(self):
         return self.value(SHOWN)
 
-    def worked(self):
-        """How many seconds the page's thread has worked."""
-        found = self.call("Performance.getMetrics")["metrics"]
-        return next(it["value"] for it in found if it["name"] == "TaskDuration")
-
     def click(self, name):
         """Clicks on an element, which may not be there yet where a page has just been opened."""
         self.wait(f"document.getElementById({json.dumps(name)}) !== null")
@@ -194,8 +182,3 @@ class Browser:
         except (OSError, EOFError):
             self.process.kill()
         self.process.wait()
-
-
-# The rows that are listed: each with its cells.
-LISTED = """Array.from(document.querySelectorAll('#lines tr:not([aria-hidden])'), (it) =>
-  Array.from(it.children, (one) => one.textContent))"""

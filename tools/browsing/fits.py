@@ -86,7 +86,6 @@ VIEWS = {
     "save": lambda browser, path: (browser.show(path, "#landing-1202"), browser.click("save")),
     "examples": lambda browser, path: (browser.show(path, "#new"), browser.click("examples")),
     "help": lambda browser, path: (browser.show(path, "#new"), browser.click("help")),
-    "plan": lambda browser, path: (browser.show(path, "#landing-1202"), browser.click("plan")),
 }
 
 
@@ -135,10 +134,12 @@ def try_why(browser, trial, path):
         browser.show(path, "#landing-1202")
         browser.press("a")
         trial.expect(f"the account isn't seen at {size}", browser.value(SEEN))
-        told = texts(browser, "#because, #account li:nth-child(-n+3)").split("|")
-        trial.expect(f"first is told: {told}", told[:2] == ["Five SERVICERs are alive at once: each needs 1.7 s, but gets only 1.5 s of every two.",
-                     "A job is in each core set. Since the beginning 48 jobs began and 41 ended, and the computer was idle 0 % "
-                     "of the time. There was hardly any time to end more. Job 3 ran."] and told[3].startswith("set 0: job 3, "))
+        told = texts(browser, "#because, #account li:nth-child(-n+9)").split("|")
+        trial.expect(f"first is told: {told}", told[:2] == ["Each SERVICER needs 1.7 s, but gets only 1.5 s of every two. So old ones "
+                     "are still alive when new ones come: five at once.",
+                     "A job is in each core set. These hold them:"] and told[2].startswith("set 0: job 3, ") and told[8].startswith("set 6: job 4, ")
+                     and told[9] == "Since the beginning 48 jobs began and 41 ended, and the computer was idle 0 % of the time. "
+                     "There was hardly any time to end more. Job 3 ran.")
         light = browser.value("document.getElementById('dsky').getAttribute('aria-label')")
         trial.expect(f"at the alarm: {light}", light == "DSKY: program alarm light on, VERB 05 NOUN 09 shows 01202 00000 01202")
 
@@ -156,6 +157,10 @@ LARGE = """(() => {
 })()"""
 
 
+# Whether an element is seen.
+SHOWN = "((id) => document.getElementById(id).getClientRects().length > 0)"
+
+
 def try_projector(browser, trial, path):
     """P leaves chart and card, to be read from the last row: texts of 18 points at least at 1920 x 1080, and all on one screen."""
     browser.width(1920, 1080)
@@ -168,8 +173,12 @@ def try_projector(browser, trial, path):
         painted, seen, cards, is_whole, is_one = browser.value(f"{DRAWN}.then(() => {LARGE})", True)
         trial.expect(f"{mark} for a projector: texts of {painted} and {seen} points; {cards}; {is_whole}, {is_one}",
                      min(painted, seen) >= 18 and cards == "story,chart-box" and is_whole and is_one)
-        browser.press("P")
-        trial.expect("the projector stays", browser.value("document.querySelector('.menu').getClientRects().length > 0"))
+        trial.expect("no way out is seen", browser.value(f"{SHOWN}('projector')") and browser.text("projector") == "P or Esc: back")
+        browser.press("Escape" if mark == "#apollo-11" else "P")
+        trial.expect("the projector stays", browser.value(f"{SHOWN}('examples') && !{SHOWN}('projector')"))
+    browser.show(path, "#exercise-3")
+    browser.press("P")
+    trial.expect("an exercise without its question and tables", browser.value(f"{SHOWN}('question') && {SHOWN}('sets') && !{SHOWN}('line')"))
 
 
 # How far the request line is below the bar, and above the window's end.

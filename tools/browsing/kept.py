@@ -67,7 +67,6 @@ def kept(browser, folder):
     trial.expect(f"Forward: {browser.text('title')}", browser.text("title").startswith("A landing: a radar"))
     try_sharing(browser, trial, path)
     try_links(browser, trial, path)
-    try_numbers(browser, trial, path)
     browser.show(path, "#landing-1202&at=3128&embed")
     seen = browser.value("['lanes-chart', 'sets', 'told', 'open', 'line', 'slider', 'rows'].filter((it) =>"
                          " document.getElementById(it).getClientRects().length > 0).join()")
@@ -75,25 +74,6 @@ def kept(browser, folder):
     trial.expect(f"embedded: {browser.value(ROW)}", "alarm 1202" in browser.value(ROW))
     trial.expect(f"{browser.shown()['broken']}", not browser.shown()["broken"])
     return trial.faults
-
-
-def try_numbers(browser, trial, path):
-    """F5 brings back another number of core sets, and a number of the clock that was changed behind the last row."""
-    browser.show(path, "#landing-1202")
-    browser.value("(() => { const it = document.querySelector('#sliders input[aria-label=\"Core sets\"]'); it.value = '8';"
-                  " it.dispatchEvent(new Event('change')); })()")
-    settled(browser)
-    again(browser)
-    told = browser.text("differs"), len(browser.shown()["sets"])
-    trial.expect(f"core sets after F5: {told}", told == ("This run differs from its document: core sets 8 (document: 7).", 8))
-    browser.show(path, "#new")
-    type_line(browser, "tick")
-    browser.press("Escape")
-    set_slider(browser, 30)
-    settled(browser)
-    again(browser)
-    told = browser.value("document.querySelector('#sliders input').value"), browser.value(ROW)
-    trial.expect(f"stolen time after F5: {told}", told[0] == "30" and told[1].startswith("Request 1 of 1"))
 
 
 def shared(browser):
@@ -121,8 +101,6 @@ def try_sharing(browser, trial, path):
     trial.expect(f"{link} {frame}", link.endswith("&was=0") and frame.startswith('<iframe src="file:') and "&amp;embed" in frame)
     browser.show(path, link[link.index("#"):])
     trial.expect(f"{browser.value(looks)}, and not {before}", browser.value(looks) == before)
-    browser.show(path, "#landing-1202&was=xyz")
-    trial.expect(f"a damaged link: {browser.text('note')}", "can't be read" in browser.text("note"))
 
 
 def try_links(browser, trial, path):

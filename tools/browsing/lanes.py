@@ -2,9 +2,9 @@
 import json
 import re
 
-from browsing.browser import LAPTOP, PHONE, SIZES, wait
+from browsing.browser import LAPTOP, PHONE, wait
 from browsing.opened import STRIPED
-from browsing.pages import DRAWN, Trial, filled, go_to, open_text, page_of, save, says, set_slider, table
+from browsing.pages import DRAWN, Trial, filled, go_to, open_text, page_of, save, says, table
 
 # Two jobs of different names in turn, one that sleeps, an event with a name, and an alarm at the end.
 LANED = "seconds = 20\nsteal = 20\n" + "".join((
@@ -115,15 +115,7 @@ def lanes(browser, folder):
     try_arrow(browser, trial)
     try_edges(browser, trial)
     try_cards(browser, trial)
-    try_eras(browser, trial)
     try_summary(browser, trial)
-    open_text(browser, LANED)
-    for size in SIZES:
-        browser.width(*size)
-        browser.value(DRAWN, True)
-        found = Chart(browser).colour(0.9 / 20, "core set 0")
-        trial.expect(f"{size[0]} points: {found}", near(found, BRIGHT[0]))
-    browser.width(*LAPTOP)
     for scheme in "light", "dark":
         browser.scheme(scheme)
         open_text(browser, f'script = {json.dumps(2 * ["novac 20 04000 00005"] + 8 * ["phase 1 1"])}\n')
@@ -137,8 +129,7 @@ def lanes(browser, folder):
 
 
 def try_strips(browser, trial):
-    """Areas and tasks are a strip each until they are opened; then each area and each task has a line of its own, and one that comes later
-    takes the line of the one that left. A run that goes on from where a task left has it no longer."""
+    """Areas and tasks are a strip each until they are opened; then each area and each task has a line of its own."""
     open_text(browser, ROWS)
     chart = Chart(browser)
     trial.expect("areas are open", chart.told(1 / 20, " s, VAC area 1\n") is None)
@@ -151,30 +142,6 @@ def try_strips(browser, trial):
     for at, wanted, other in (1, " s, VAC area 1\n", "free"), (10, "VAC area 1: free", "ALPHA"), (1, "task 02000", "nothing"), (10, "nothing waits here", "task"):
         told = chart.told(at / 20, wanted)
         trial.expect(f"{wanted!r} at {at} s: {told}", told and other not in told)
-    nine = [f"list {it} 02000 00005" for it in (100, *range(300, 308))]
-    open_text(browser, "seconds = 4\n" + table("event", at=0, do=nine) + table("event", at=150, do="list 200 02000 00005"))
-    expect_tasks(browser, trial, (0.5, 9), (1.25, 8), (1.75, 9))
-    open_text(browser, "seconds = 4\n" + table("event", at=0, do="list 100 02000 00005"))
-    go_to(browser, "1 s")
-    says(browser, trial, "a task leaves", "tick 02000/00005")
-    browser.click("here")
-    set_slider(browser, 50)
-    browser.click("here")
-    expect_tasks(browser, trial, (0.5, 1), (2, 0))
-
-
-def expect_tasks(browser, trial, *counts):
-    """How many tasks are told at these seconds of four."""
-    chart = Chart(browser)
-    told = """((x) => { const canvas = document.getElementById('lanes-chart'); const { top, height } = canvas.getBoundingClientRect(); const found = new Set();
-      for (let y = 1, last = ''; y < height; y += 1) {
-        canvas.dispatchEvent(new PointerEvent('pointermove', { clientX: x, clientY: top + y, pointerType: 'mouse', bubbles: true }));
-        const text = document.getElementById('block').hidden ? '' : document.getElementById('block').textContent;
-        if (text.includes('task 02000')) found.add(text + Math.floor(y / 4) * (last === text ? 0 : 1)); last = text;
-      } return found.size; })"""
-    for at, wanted in counts:
-        found = browser.value(f"{told}({chart.x(at / 4)})")
-        trial.expect(f"{found} tasks at {at} s, not {wanted}", (found > 0) == (wanted > 0))
 
 
 def open_landing(browser):
@@ -263,32 +230,16 @@ def try_cards(browser, trial):
     browser.press("Escape")
 
 
-def try_eras(browser, trial):
-    """The job that begins again with a restart is another one, though it has the number and the core set of one before."""
-    jobs = "".join(table("job", name=name, at=at, cost=9999) for name, at in (("ALPHA", "04000"), ("BETA", "05000")))
-    open_text(browser, f"seconds = 4\n{jobs}" + table("phase", group=1, phase=1, job="novac 15 05000 00005")
-              + table("event", at=0, do=["phase 1 1", "novac 20 04000 00005"]) + table("event", at=200, do="restart"))
-    chart = Chart(browser)
-    found = [chart.colour(part, "core set 0") for part in (1 / 4, 3 / 4)]
-    trial.expect(f"ALPHA, and BETA after the restart: {found}", near(found[0], BRIGHT[0]) and near(found[1], BRIGHT[1]))
-
-
 def try_summary(browser, trial):
-    """What the chart shows is said in words, and a click leads to a row, by time or by requests. What lanes hold is a list."""
+    """A click leads to a row, also by requests, of which an alarm has two columns. What lanes hold is a list."""
     open_text(browser, STRIPED)
-    trial.expect(browser.text("summary"), browser.text("summary") == "Over 0.80 s: at most 6 of 7 core sets, 5 of 5 areas "
-                 "and 4 of 9 tasks at once; 1 alarm: 1201, in request 51 at 0.40 s.")
     chart = Chart(browser)
-    # (by requests, of which the alarm has two columns)
-    for part, row in (0.251, 23), (0.375, 34), (0.75, 67), (0.999, 90):
+    for part, row in (0.251, 23), (0.75, 67):
         for kind in "mousePressed", "mouseReleased":
             chart.pointer(kind, part, "core set 6", button="left", clickCount=1)
         says(browser, trial, f"a click at {part}", f"Request {row} of 91")
     told = browser.value("Array.from(document.querySelectorAll('#lane-list li'), (it) => it.textContent)")
     trial.expect(f"lanes in words: {told}", len(told) == 7 and told[0].startswith("Core set 0: job 1 from request 21") and told[6].startswith("Core set 6: free"))
-    for count, text in (19, "Over 19 requests"), (20, "Over 0.20 s"):
-        open_text(browser, f"script = {json.dumps(count * ['tick'])}\n")
-        trial.expect(browser.text("summary"), browser.text("summary").startswith(text))
 
 
 def wheel(browser, part, more):
@@ -323,11 +274,6 @@ def try_zoom(browser, trial, row):
     says(browser, trial, "to the alarm", "alarm 1202")
     left, wide = browser.value(SEEN)
     trial.expect(f"around the alarm: {left} {wide}", wide < 0.8 * end and left + wide > 0.7 * end)
-    browser.press("Home")
-    trial.expect(f"what is shown is seen: {browser.value(SEEN)}", browser.value(SEEN)[0] == 0)
-    browser.press("End")
-    left, wide = browser.value(SEEN)
-    trial.expect(f"the end is seen: {left} {wide}", wide < 0.8 * end and abs(left + wide - end) < 0.01 * end)
     open_text(browser, LANED)
     trial.expect(f"all of another document is seen: {browser.value(SEEN)}", browser.value(SEEN) == [0, end])
     browser.width(*PHONE)

@@ -17,7 +17,7 @@ LOOKS = """(() => {
     ...Array.from(document.querySelectorAll('#rows th'), (it) => it.textContent)].join(', ');
 })()"""
 LOOK = ('true, " Δ", line-through, dashed, status polite, status polite, status polite, Alarm 1202: why, Core sets: 7 of 7 in use, , VAC areas: 0 of 5 in use, Waitlist: 0 of 9 in use, Phases, '
-        "FAILREG, NEWJOB, First, Back, Run, Next, Last, Nextalarm, "
+        "FAILREG, NEWJOB, PorEscback, First, Back, Run, Next, Last, Nextalarm, "
         "no, time, request, reply, running, sets, areas, tasks, asked by")
 
 
@@ -30,9 +30,6 @@ def try_looks(browser, trial):
     browser.click("alarm-next")
     found = browser.value(LOOKS)
     trial.expect(f"it looks {found}", found == LOOK)
-    for key, wanted in ("a", "There is no alarm after this row."), ("A", "There is no alarm before this row."):
-        browser.press(key)
-        says(browser, trial, f"no alarm by {key}", wanted)
     browser.press("ArrowLeft")
     found = browser.value("(() => { const it = getComputedStyle(document.querySelector('#sets li.new'), '::after');"
                           " return `${it.content} ${it.borderTopWidth}`; })()")
@@ -60,12 +57,6 @@ def try_tops(browser, trial):
         browser.press("ArrowLeft")
     colours = browser.value("Array.from(document.querySelectorAll('#areas li'), (it) => it.classList[0]).join(' ')")
     trial.expect(f"areas {colours}", colours == "j1 s2 s3 s4 s5")
-    open_text(browser, 'script = ["novac 20 04000 00005", "findvac 20 04100 00005", "findvac 20 04200 00005", "end"]\n')
-    browser.press("End")
-    found = texts(browser, "#areas li"), browser.value("Array.from(document.querySelectorAll('#areas li'), (it) => it.classList[0]).join(' ')"), \
-        browser.shown()["sets"][2]
-    trial.expect(f"areas and sets: {found}", found[0].startswith("area 1job 2|area 2job 3|area 3free") and found[1].startswith("j2 s3 free")
-                 and "job 3" in found[2] and "area 2" in found[2])
     browser.click("help")
     told = texts(browser, "#dialog-body p")
     trial.expect(f"the help of alarms: {told}", "the table is full: 1201 areas, 1202 core sets, 1203 the Waitlist." in told)

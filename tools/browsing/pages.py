@@ -2,7 +2,6 @@
 import base64
 import json
 import subprocess
-import time
 import zlib
 
 import repository
@@ -11,12 +10,6 @@ from browsing.browser import wait
 TOP = repository.TOP
 PROGRAM = f"{TOP}/crates/agc_watch/out/agc_watch"
 SERIAL = f"{TOP}/crates/agc/out/agc"
-
-# How many random benches and scenarios are opened, and for how many seconds keys and clicks are random; how many
-# by `--all`.
-COUNTS = {"benches": 40, "scenarios": 15, "seconds": 10, "links": 60, "agreements": 60, "seed": 1202}
-ALL_COUNTS = {"benches": 300, "scenarios": 100, "seconds": 300, "links": 10_000, "agreements": 1010}
-
 
 class Trial:
     """What is wrong with a part."""
@@ -28,13 +21,6 @@ class Trial:
         if not holds:
             self.faults.append(f"{self.name}: {what}")
         return holds
-
-    def expect_within(self, seconds, what, took):
-        """What takes a page's thread longer than it should is told; it fails only where a machine four times as slow
-        would not excuse it."""
-        if took >= seconds:
-            print(f"browse: SLOW: {self.name}: {what} takes {took:.3f} s in place of {seconds}")
-        self.expect(f"{what} takes {took:.3f} s", took < 5 * seconds)
 
 
 def written(program, word, bench):

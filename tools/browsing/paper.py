@@ -23,11 +23,23 @@ def paper(browser, folder):
     print_long(browser, trial)
     try_question(browser, trial, path)
     try_seen(browser, trial, path)
+    try_chart_alone(browser, trial, save(folder, "chart-alone", page_of(TIGHT, "chart")))
     for name in "landing-1202", "landing", "apollo-11":
         browser.show(path, f"#{name}")
         pages, parts = printed(browser)
         trial.expect(f"{name} is printed on {pages} pages, with {parts}", pages <= 2 and parts == "h1 p canvas h2 table h2 div")
+        jobs, text = texts(browser, "#printed .jobs td:first-child"), browser.text("printed")
+        trial.expect(f"{name} is printed with the jobs {jobs}", "SERVICER" in jobs and "`" not in text)
+        browser.scheme("light", media="print")
+        wide, high = browser.value(SHAPES)
+        trial.expect(f"the chart of {name} is {wide} as wide and {high} as high as it is drawn", abs(wide - high) < 0.01)
+        browser.scheme("light")
     return trial.faults
+
+
+# How large the chart is on paper, of what it was drawn.
+SHAPES = """(() => { const it = document.getElementById('printed-chart'), box = it.getBoundingClientRect();
+  return [box.width / it.width, box.height / it.height]; })()"""
 
 
 def on_paper(browser, trial, what):
@@ -60,24 +72,12 @@ def try_run(browser, trial, path):
 
 
 def try_rows(browser, trial, path):
-    """Each row of a bench is there once."""
+    """Rows in which only time goes by are one line, and an alarm has its account."""
     browser.show(path)
     on_paper(browser, trial, "a bench")
     rows = browser.value("Array.from(document.querySelectorAll('#printed tbody tr'), (it) => Array.from(it.children, (one) => one.textContent))")
-    at = accounts = 0
-    for cells in rows:
-        if len(cells) == 1:
-            accounts += 1
-            trial.expect(f"an account: {cells}", "A job is in each core set" in cells[0] and "\nThese hold them:\nset 0: job " in cells[0])
-            continue
-        first, last = (int(it) for it in (cells[0].split(" to ") if " to " in cells[0] else (cells[0], cells[0])))
-        trial.expect(f"row {first} behind {at - 1}", first == at)
-        trial.expect(f"several rows: {cells}", first == last or (cells[2] == f"tick, {last - first + 1} times" and last - first > 1))
-        if " to " in cells[1]:
-            begun, ended = (float(it) for it in cells[1].split(" to "))
-            trial.expect(f"{cells}", last - first == round(100 * (ended - begun)))
-        at = last + 1
-    trial.expect(f"{at} rows, {accounts} accounts", (at, accounts) == (41, 1))
+    told = [len(cells) for cells in rows].count(1), rows[2][0], rows[-1][0]
+    trial.expect(f"an account, and rows of several ticks: {told}", told == (1, "2 to 5", "37 to 40"))
     trial.expect("the plan of a bench", "novac 20 02000 00005" in texts(browser, "#printed .plan"))
     browser.scheme("light")
 
@@ -90,12 +90,10 @@ def try_question(browser, trial, path):
         pages, parts = printed(browser)
         told = browser.text("printed")
         trial.expect(f"exercise {number} is printed on {pages} pages, with {parts}", pages == 1 and parts == "h1 p pre dl h2 table p")
-        trial.expect(f"exercise {number} on paper: {told}", browser.text("title") in told and not re.search("alarm [0-9]|1201 at|1202 at", told))
-        asked = browser.value("Array.from(document.querySelectorAll('#printed dt'), (it) => it.textContent)")
-        trial.expect(f"exercise {number} asks {asked}, and not {wanted}", len(asked) > 0 and all(it in wanted for it in asked)
-                     and browser.value("document.querySelectorAll('#printed dd').length") == len(asked))
-        trial.expect(f"exercise {number} has no legend", browser.value("document.querySelectorAll('#printed .legend tr').length") == 13
+        trial.expect(f"exercise {number} on paper: {told}", browser.text("title") in told and not re.search("alarm [0-9]|1201 at|1202 at", told)
                      and "findvac P A Westablish a job with a VAC area" in told)
+        asked = browser.value("Array.from(document.querySelectorAll('#printed dt'), (it) => it.textContent)")
+        trial.expect(f"exercise {number} asks {asked}, and not {wanted}", len(asked) > 0 and all(it in wanted for it in asked))
     browser.show(path, "#exercise-1")
     browser.click("show-answer")
     browser.value("window.dispatchEvent(new Event('beforeprint'))")
@@ -119,6 +117,22 @@ def try_seen(browser, trial, path):
         browser.value("window.dispatchEvent(new Event('beforeprint'))")
         red = browser.value(RED)
         trial.expect(f"the printed alarm after {key}: {red}", (red[0] > 0, red[1] > 0) == wanted)
+
+
+def try_chart_alone(browser, trial, path):
+    """A page made for printing shows its title and its chart, and prints these with the summary, on one page."""
+    browser.show(path)
+    seen = browser.value("Array.from(document.querySelectorAll('h1, h2, button, canvas, table'), (it) =>"
+                         " (it.checkVisibility() ? it.id : '')).filter((it) => it !== '').join(' ')")
+    trial.expect(f"beside the chart alone: {seen}", seen == "title lanes-chart closer wider fit to-alarm")
+    wide = browser.value("document.getElementById('lanes-chart').clientWidth / innerWidth")
+    trial.expect(f"the chart alone takes {wide} of the width", 0.9 < wide <= 1)
+    pages, _ = printed(browser)
+    on_paper(browser, trial, "a chart alone")
+    parts = browser.value("Array.from(document.querySelectorAll('#printed *')).filter((it) => it.checkVisibility())"
+                          ".map((it) => it.localName).join(' ')")
+    trial.expect(f"a chart alone is printed on {pages} pages, with {parts}", pages == 1 and parts == "h1 p canvas")
+    browser.scheme("light")
 
 
 def printed(browser):

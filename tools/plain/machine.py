@@ -4,7 +4,6 @@ A job is kept by its number, and a task in order of arrival. Nothing is kept as 
 """
 from typing import NamedTuple
 
-TABLES = CORE_SETS, AREAS, TASKS = "sets", "areas", "tasks"
 MOST_AREAS, MOST_TASKS = 5, 9
 ALARMS = 0o1201, 0o1202, 0o1203
 POWER_ALARM = 0o1107
@@ -113,7 +112,6 @@ class Machine:
     def end(self):
         if self.running is None:
             return "no job"
-        self.log.append(("ended", self.running))
         del self.jobs[self.running]
         self.places = tuple(0 if it == self.running else it for it in self.places)
         return self.leave()
@@ -121,7 +119,6 @@ class Machine:
     def sleep(self, at):
         if self.running is None:
             return "no job"
-        self.log.append(("slept", self.running))
         self.set_job(at=at, asleep=True)
         return self.leave()
 
@@ -129,7 +126,6 @@ class Machine:
         number = min((number for number, job in self.jobs.items() if job.asleep and job.at == at), default=None)
         if number is None:
             return "no sleeper"
-        self.log.append(("woke", number))
         self.jobs[number] = self.jobs[number]._replace(asleep=False)
         self.seat()
         return f"roused {number}"
@@ -139,7 +135,6 @@ class Machine:
             return "no job"
         other = self.newjob()
         if other:
-            self.log.append(("gave way", self.running))
             self.running = other
             self.seat()
         return f"runs {self.running}"

@@ -3,14 +3,9 @@ import random
 
 from . import documents, orders
 from .machine import ALARMS
+from .orders import text_of
 
 RARE = ["restart", "fresh", "phase"]
-ODD_LINES = ["nov ac", "novac", "END", "tick ", " tick", "list 0 02000 00005", "list 16251 02000 00005", "prio 00", "prio 40",
-             "phase 0 1", "phase 7 1", "phase 1 128", "phase 1 01", "store 7 00000", "store 0 00000", "sleep 00000",
-             "rouse 40000", "novac 20 2000 00005", "novac 20 02000 100000", "findvac 20 02000", "end end",
-             "tick\u00e9", "list 1\u0661 02000 00005", "nothing", "", "tick\r"]
-
-
 class Dice(random.Random):
     """What one run is made of. Addresses and banks are few, so that sleepers, rows and entries are met."""
 
@@ -77,7 +72,7 @@ class Dice(random.Random):
 # Scripts and benches.
 
 def script(dice):
-    text = "".join(f"{it}\n" for it in dice.lines(1100 if dice.often(0.01) else dice.length()))
+    text = text_of(dice.lines(1100 if dice.often(0.01) else dice.length()))
     return text[:-1] if dice.often(0.1) else text
 
 
@@ -332,48 +327,3 @@ def damaged(dice, text, other=b""):
                                    (line, line, made[line:end])])
         made[at:to] = put
     return bytes(made)
-
-
-def wrong_script(dice):
-    lines = dice.lines(dice.randint(1, 60))
-    if dice.often(0.5):
-        lines[dice.randrange(len(lines))] = dice.choice(ODD_LINES)
-    text = "".join(f"{it}\n" for it in lines).encode()
-    return text if dice.often(0.5) else damaged(dice, text)
-
-
-def odd_value(dice, name, value):
-    """A value of the wrong range or kind, for a key that has this."""
-    if isinstance(value, int):
-        return dice.choice([-1, 0, 8, 128, 1000001, 2**63 - 1])
-    if isinstance(value, str):
-        return dice.choice([*ODD_LINES, "nothing", "timers"])
-    if name in ("action", "key", "radar"):
-        return dice.choice([[], ["nothing"] * 5, ["nothing", dice.choice(ODD_LINES)], ["nothing", 1]])
-    return dice.choice([1, [1], "nothing", [*value, *value], value])
-
-
-def wrong_bench(dice):
-    """A bench with a fault in a line, a key or a value, or damaged anywhere."""
-    made = bench(dice, dice.lines(dice.randint(1, 20)))
-    made.update(worker=workers(dice, 33 if dice.often(0.05) else dice.randint(0, 3), 3), device=devices(dice, 3, 3))
-    way = dice.randrange(4)
-    table = dice.choice([made, *made["task"], *made["phase"], *made["worker"], *made["device"]])
-    name = dice.choice([*table])
-    if way == 0:
-        made["script"][dice.randrange(len(made["script"]))] = dice.choice(ODD_LINES)
-    elif way == 1 and dice.often(0.5):
-        del table[name]
-    elif way == 1:
-        table[name] = odd_value(dice, name, table[name])
-    text = toml({**made, **({"keys": 1} if dice.often(0.05) else {})}, dice).encode()
-    return text if way < 2 else damaged(dice, text)
-
-
-def wrong_bytes(dice):
-    """An input that is no text, or longer than any may be; or just as long."""
-    text = script(dice).encode() if dice.often(0.5) else serial(dice).encode()
-    if dice.often(0.5):
-        at = dice.randrange(len(text) + 1)
-        return text[:at] + dice.choice([b"\xff", b"\xc3", b"\xed\xa0\x80", b"\xc0\x80", b"\x80"]) + text[at:]
-    return text + b"\n" * (documents.MOST_BYTES + dice.choice([0, 1, 5000]) - len(text))

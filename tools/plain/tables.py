@@ -1,222 +1,17 @@
-"""What a run comes to, from docs/COMMANDS.md and docs/FORMATS.md: the tables of its jobs, its eras and its trace, and
-sweeps. Each is made from the rows of time.py: the requests, the machine after each, and the log of what happened."""
+"""A trace of a run, from docs/FORMATS.md, as CSV, as JSON and as a chart. It is made from the rows of time.py: the requests, the
+machine after each, and the log of what happened. Sums of runs, jobs and eras are proved; what remains is how they are written,
+which cases compare."""
 import collections
-import copy
 import csv
-import fractions
 import io
-import itertools
 import json
 import re
 
-from .machine import TABLES
-from .time import CLOCK, Clock, Row
-
-
-def decimal(hundredths):
-    """A number of hundredths of a centisecond as seconds, rounded to the nearest centisecond."""
-    whole = int(fractions.Fraction(hundredths) / 100 + fractions.Fraction(1, 2))
-    return f"{whole // 100}.{whole % 100:02}"
+from .time import CLOCK, Clock
 
 
 def seconds(centiseconds):
-    return decimal(100 * centiseconds)
-
-
-def csv_of(rows):
-    text = io.StringIO()
-    csv.writer(text, lineterminator="\n").writerows(rows)
-    return text.getvalue()
-
-
-def rows_of(scenario):
-    """The machine at the start, its log of that, and the rows of a run."""
-    clock = Clock(scenario)
-    return clock.machine.copy(), clock.start, clock.run()
-
-
-# Jobs.
-
-JOBS = "job,began,ended,lost,alive,least,mean,p95,most,computing,waiting,sleeping,taken_over,share,missed,first_missed"
-
-
-class Life:
-    """A job that lives: times are hundredths of a centisecond since the start."""
-
-    def __init__(self, at, now):
-        self.at, self.began = at, now
-        self.computed = self.slept = 0
-        self.asleep_since = None
-
-
-class Kind:
-    """What the jobs of an address came to. `lives` has where each began and ended or was lost, `ended` what it took."""
-
-    def __init__(self):
-        self.began = self.lost = self.gave_way = self.computed = 0
-        self.ended, self.lives = [], []
-
-
-class JobBook:
-    def __init__(self):
-        self.alive, self.kinds = {}, collections.defaultdict(Kind)
-
-    def give(self, number, hundredths):
-        self.alive[number].computed += hundredths
-        self.kinds[self.alive[number].at].computed += hundredths
-
-    def note(self, now, log):
-        for kind, *parts in log:
-            if kind == "era":
-                for it in self.alive.values():
-                    self.kinds[it.at].lost += 1
-                    self.kinds[it.at].lives.append((it.began, now))
-                self.alive = {}
-            elif kind == "began":
-                number, at = parts
-                self.alive[number] = Life(at, now)
-                self.kinds[at].began += 1
-            elif kind in ("ended", "slept", "woke", "gave way"):
-                getattr(self, kind.replace(" ", "_"))(parts[0], now)
-
-    def ended(self, number, now):
-        it = self.alive.pop(number)
-        self.kinds[it.at].ended.append((now - it.began, it.computed, it.slept))
-        self.kinds[it.at].lives.append((it.began, now))
-
-    def slept(self, number, now):
-        self.alive[number].asleep_since = now
-
-    def woke(self, number, now):
-        self.alive[number].slept += now - self.alive[number].asleep_since
-
-    def gave_way(self, number, _):
-        self.kinds[self.alive[number].at].gave_way += 1
-
-
-def missed(kind, deadline):
-    """How many jobs missed their deadline, in centiseconds from where they began, and when the first did."""
-    if deadline is None:
-        return ["", ""]
-    late = [began + 100 * deadline for began, ended in kind.lives if ended > began + 100 * deadline]
-    return [len(late), decimal(min(late)) if late else ""]
-
-
-def job_row(name, kind, alive, time_of_run, deadline):
-    times = sorted(it[0] for it in kind.ended)
-    mean = lambda numbers: decimal(fractions.Fraction(sum(numbers), max(len(times), 1)))
-    computed, slept = [it[1] for it in kind.ended], [it[2] for it in kind.ended]
-    waited = [whole - computing - sleeping for whole, computing, sleeping in kind.ended]
-    share = int(fractions.Fraction(1000 * kind.computed, max(time_of_run, 1)) + fractions.Fraction(1, 2))
-    rank = -(-95 * len(times) // 100)
-    least, ninety_five, most = (decimal(it) for it in ((times[0], times[rank - 1], times[-1]) if times else (0, 0, 0)))
-    return [name, kind.began, len(times), kind.lost, alive, least, mean(times), ninety_five, most, mean(computed), mean(waited),
-            mean(slept), kind.gave_way, f"{share // 10}.{share % 10}", *missed(kind, deadline)]
-
-
-def jobs(scenario):
-    _, log, rows = rows_of(scenario)
-    book, end = JobBook(), 10000 * scenario["seconds"]
-    book.note(0, log)
-    for row in rows:
-        if isinstance(row, Row):
-            book.note(row.now, row.log)
-        else:
-            book.give(*row)
-    for it in book.alive.values():
-        book.kinds[it.at].lives.append((it.began, end))
-    told = {}
-    for job in scenario.get("job", []):
-        told.setdefault(int(job["at"], 8), job)
-    alive = collections.Counter(it.at for it in book.alive.values())
-    lines = [job_row(told.get(at, {}).get("name") or f"{at:05o}", kind, alive[at], end, told.get(at, {}).get("deadline"))
-             for at, kind in book.kinds.items()]
-    return csv_of([JOBS.split(","), *lines])
-
-
-# Eras.
-
-ERAS = "era,begins,by,lasts,requests,begun,ended,sets,sets_since,areas,areas_since,tasks,tasks_since,idle,lost,ended_by"
-
-
-class Era:
-    """What is counted of an era; times are centiseconds since the start. `most` has of each table how much was taken at
-    most, and since when."""
-
-    def __init__(self, began, by, counts):
-        self.began, self.by, self.end, self.ended_by = began, by, None, None
-        self.requests, self.begun, self.ended, self.idle, self.lost = 0, counts[0], 0, 0, 0
-        self.most, self.counts = [(0, 0)] * 3, counts
-        self.see(counts, began)
-
-    def see(self, counts, now):
-        self.most = [(count, now) if count > most[0] else most for count, most in zip(counts, self.most)]
-        self.counts = counts
-
-    def serve(self, row, counts, now):
-        self.requests += 1
-        self.idle += row.line == "tick" and row.is_idle
-        self.begun += max(counts[0] - self.counts[0], 0)
-        self.ended += max(self.counts[0] - counts[0], 0)
-        self.see(counts, now)
-
-    def cells(self, number):
-        lasts = self.end - self.began
-        most = [cell for count, since in self.most for cell in (count, seconds(since))]
-        return [number, seconds(self.began), self.by, seconds(lasts), self.requests, self.begun, self.ended, *most,
-                100 * self.idle // max(lasts, 1), decimal(self.lost), self.ended_by]
-
-
-def eras_of(scenario):
-    """The eras of a run, and its alarms with when they came."""
-    start, _, rows = rows_of(scenario)
-    now, alarms, eras = 0, [], [Era(0, "start", start.counts())]
-    for row in (it for it in rows if isinstance(it, Row)):
-        stood = next((it[1] for it in row.log if it[0] == "era"), None)
-        now += row.line == "tick"
-        eras[-1].serve(row, (stood or row.after).counts(), now)
-        if stood:
-            alarms += [(row.alarm, now)] * bool(row.alarm)
-            eras[-1].lost, eras[-1].end = row.given, now
-            eras[-1].ended_by = row.alarm or ("fresh start" if row.line == "fresh" else "restart")
-            eras.append(Era(now, row.alarm or "restart", row.after.counts()))
-    eras[-1].end, eras[-1].ended_by = now, "the end"
-    return eras, alarms
-
-
-def eras(scenario):
-    return csv_of([ERAS.split(","), *(era.cells(k) for k, era in enumerate(eras_of(scenario)[0], 1))])
-
-
-def with_number(scenario, key, value):
-    """A scenario in which one number has another value."""
-    made = copy.deepcopy(scenario)
-    kind, _, rest = key.partition(".")
-    if not rest:
-        made[key] = value
-        return made
-    name, _, field = rest.rpartition(".")
-    next(it for it in made[kind] if name in (it.get("name"), it.get("at") if kind == "job" else None))[field] = value
-    return made
-
-
-def sweep(scenario, *axes):
-    """The table of a sweep of one number or two, each KEY:FROM:TO:STEP."""
-    keys, ranges = [], []
-    for axis in axes:
-        key, *numbers = axis.rsplit(":", 3)
-        first, last, step = map(int, numbers)
-        keys.append(key)
-        ranges.append(range(first, last + 1, step))
-    lines = [[*keys, "alarm", "at", "alarms", *(f"most_{it}" for it in TABLES)]]
-    for values in itertools.product(*ranges):
-        made = scenario
-        for key, value in zip(keys, values):
-            made = with_number(made, key, value)
-        eras, alarms = eras_of(made)
-        first = [alarms[0][0], seconds(alarms[0][1])] if alarms else ["", ""]
-        lines.append([*values, *first, len(alarms), *(max(era.most[k][0] for era in eras) for k in range(3))])
-    return csv_of(lines)
+    return f"{centiseconds // 100}.{centiseconds % 100:02}"
 
 
 # Traces.
@@ -297,10 +92,10 @@ def scene(names, shown, jobs=None, tasks=None):
 
 def trace(scenario):
     """An object for each request, as `--json` has it."""
-    before, log, rows = rows_of(scenario)
-    names, origins, total, objects = Names(scenario), Origins(), 0, []
-    origins.note(0, log, True)
-    for number, row in enumerate((it for it in rows if isinstance(it, Row)), 1):
+    clock = Clock(scenario)
+    before, names, origins, total, objects = clock.machine.copy(), Names(scenario), Origins(), 0, []
+    origins.note(0, clock.start, True)
+    for number, row in enumerate(clock.run(), 1):
         origins.note(number, row.log)
         total += row.line == "tick"
         stood = next((it[1] for it in row.log if it[0] == "era"), None)
@@ -325,17 +120,19 @@ def called(seat):
 
 
 def trace_csv(scenario):
-    lines = [COLUMNS]
+    text = io.StringIO()
+    lines = csv.writer(text, lineterminator="\n")
+    lines.writerow(COLUMNS)
     for row in trace(scenario):
         seats = row["sets"]
         taken = [seat for seat in seats if seat]
         owners = [next((seat for seat in taken if seat["area"] == area), None) for area in range(1, 6)]
         runs = row["running"] is not None
-        lines.append([row["no"], row["time"].split()[1], row["total"].split()[1], row["by"], row["request"], row["reply"],
+        lines.writerow([row["no"], row["time"].split()[1], row["total"].split()[1], row["by"], row["request"], row["reply"],
                       row["alarm"] or "", row["running"] if runs else "", seats[0]["priority"] if runs else "", len(taken),
                       sum(seat["area"] > 0 for seat in taken), len(row["tasks"]),
                       *(called(seats[k]) if k < len(seats) else "" for k in range(8)), *map(called, owners)])
-    return csv_of(lines)
+    return text.getvalue()
 
 
 # Charts, as `trace --perfetto` writes them.

@@ -9,15 +9,12 @@ CODES = [f"{it:o}" for it in ALARMS]
 
 
 class Row(NamedTuple):
-    """A request that was asked: the centisecond, the hundredth since the start, who asked (the clock, None for a person,
-    or the number of an event), and what came of it. `is_idle` and `given` are of before it, `after` is the machine then."""
+    """A request that was asked: the centisecond, who asked (the clock, None for a person, or the number of an event), and what
+    came of it. `after` is the machine then."""
     time: int
-    now: int
     who: Any
     line: str
     reply: str
-    is_idle: bool
-    given: int
     after: Machine
     log: list
 
@@ -29,12 +26,6 @@ class Row(NamedTuple):
     def alarm(self):
         """The code of the alarm that it raised, or None."""
         return self.reply.split()[-1] if "alarm" in self.reply else None
-
-
-class Gift(NamedTuple):
-    """A job was given so many hundredths of a centisecond."""
-    job: int
-    hundredths: int
 
 
 def holds(row, time):
@@ -79,12 +70,12 @@ def comes(event, origin, alarms, time):
 
 
 class Clock:
-    """Time that passes over a machine. `rows` has all that was asked, and the gifts of time between."""
+    """Time that passes over a machine. `rows` has all that was asked."""
 
     def __init__(self, scenario):
         self.scenario, self.machine = scenario, Machine(documents.bench_of(scenario))
         self.start, self.machine.log = self.machine.log, []
-        self.time, self.now, self.rows = 0, 0, []
+        self.time, self.rows = 0, []
         self.given, self.needs, self.lot = {}, {}, scenario.get("seed")
         self.events = scenario.get("event", [])
         self.origins, self.alarms = [origin_of(self.events, k) for k in range(len(self.events))], {}
@@ -95,9 +86,8 @@ class Clock:
 
     def ask(self, who, line):
         machine = self.machine
-        is_idle, given = machine.running is None, sum(self.given.values())
         reply, _ = machine.ask(documents.request_of(line))
-        row = Row(self.time, self.now, who, line, reply, is_idle, given, machine.copy(), machine.log)
+        row = Row(self.time, who, line, reply, machine.copy(), machine.log)
         machine.log = []
         self.rows.append(row)
         if row.alarm:
@@ -130,8 +120,7 @@ class Clock:
                 self.needs[number] = self.cost_of(cost)
             more = min(share, max(1, self.needs[number] - self.given.get(number, 0)))
             self.given[number] = self.given.get(number, 0) + more
-            share, self.now = share - more, self.now + more
-            self.rows.append(Gift(number, more))
+            share -= more
             step = self.given[number] - self.needs[number]
             if step >= 0:
                 if step == len(then) - 1:
@@ -140,7 +129,6 @@ class Clock:
 
     def pass_centisecond(self):
         self.time += 1
-        self.now = 100 * (self.time - 1) + stolen(self.scenario, self.time)
         self.ask(CLOCK, "tick")
         self.ask_events()
         if self.machine.newjob():
@@ -159,7 +147,7 @@ class Clock:
 
 
 def requests_of(scenario):
-    return [it.line for it in Clock(scenario).run() if isinstance(it, Row)]
+    return [it.line for it in Clock(scenario).run()]
 
 
 # Scenarios as lines, for the callers of libagc in other languages: libagc/tests/clocks.c says what these are.

@@ -10,4 +10,4 @@ use Rattle.agc_check.specs.Findings.{AreFindings}
 abbrev pub IsNoDocument : List ℕ → NoDocument → Type 0
 IsNoDocument text refused.NoMemory = Unit {0}
 IsNoDocument text (refused.NotToml found) =
-    (parse_document text ≡ None) × AreFindings text NotToml found.items
+    (parse_document text ≡ None) × AreFindings text NotToml found

@@ -8,6 +8,7 @@ use Rattle.agc_document.specs.declared.fault.BenchFault.{BenchFault}
 use Rattle.agc_document.specs.declared.fault.BenchFault.TheVariants as refusal
 use Rattle.agc_document.specs.declared.key_fault.KeyFault.{KeyFault}
 use Rattle.agc_document.specs.declared.key_fault.KeyFault.TheVariants.{Unknown, Value, Item}
+use Rattle.agc_document.specs.declared.key_fault.KeyFault.TheVariants.{NoneAbove}
 use Rattle.agc_document.specs.declared.notes.KeyNote.{KeyNote}
 use Rattle.agc_document.specs.declared.notes.TextNote.{TextNote}
 use Rattle.agc_document.specs.declared.location.Location.{Location}
@@ -91,13 +92,14 @@ pub record Message : Type 0 where
   pub wrong : Problem
   pub text : List ℕ
 
--- the text that a finding quotes, unless it is of the value of a key
+-- the text that a finding quotes, unless it quotes the value of a key
 abbrev pub quoted : Problem → List ℕ → List ℕ
 quoted (wrong.Key (Value key)) text = []
 quoted (wrong.Key (Item key)) text = []
+quoted (wrong.Key (NoneAbove number)) text = []
 quoted other text = text
 
--- the contents of a finding, apart from the digits of a value
+-- the contents of a finding, apart from the value that it quotes
 abbrev pub say : Location → Problem → List ℕ → Message
 say place what text = record { place = place; wrong = what; text = quoted what text }
 

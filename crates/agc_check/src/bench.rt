@@ -1,31 +1,29 @@
 //! The sentences about findings in a bench.
-use crate::finding::Finding;
+use crate::finding::Findings;
 use crate::line::{LineFault, fault_of};
 use crate::line_form::{
     ACTIONS, JOBS, LEAVINGS, LISTINGS, LineForm, LineWord, NO_REQUEST, REQUESTS, STEPS,
 };
-use crate::messages::{Message, Part, message_of, put};
+use crate::messages::{Message, NONE, front_of, message_of, plain, put_message};
 use crate::names::{HasName, meant_by, with_name};
 use crate::problem::Problem;
-use crate::script::MOST_TOLD;
+use crate::script::{MOST_TOLD, put_more};
 use agc_document::rows::{
     BENCH_KEYS, DEVICE_KEYS, EXPLORED_WORKER_KEYS, PHASE_KEYS, TASK_KEYS, WORKER_KEYS,
 };
 use agc_document::{Key, KeyFault, Kind as Valued, Level, Location, TextForm};
 use agc_scenario::rows::{
-    COST, COST_KEYS, EVENT_KEYS, JOB_KEYS, NAMED_PHASE_KEYS, NAMED_TASK_KEYS, SCENARIO_KEYS, STEAL,
-    STEAL_KEYS,
+    COST, COST_KEYS, EVENT_KEYS, JOB_KEYS, NAMED_PHASE_KEYS, NAMED_TASK_KEYS, SCENARIO_KEYS,
+    SECONDS, STEAL, STEAL_KEYS,
 };
-use std::alloc::{AllocError, Global};
+use agc_text::Field::{Number, Text};
+use agc_text::{Buffer, Field};
 
 impl HasName for Key {
     fn name(self) -> &'static str {
         Key::name(self)
     }
 }
-
-/// For a gap that a text doesn't have.
-const NONE: Part<'static> = Part::Text("");
 
 const INTEGER: &str = "expected an integer, {} {} {}";
 
@@ -42,11 +40,21 @@ const TABLES: &str = "expected an array of tables, each below its line [[{}]]";
 
 const FEW_TABLES: &str = "expected at most {} tables, each below its line [[{}]]";
 
-const ABOVE_TABLES: &str = "unknown key \"{}\"; it belongs above all tables";
+const ABOVE_TABLES: &str = "unknown key \"{}{}\"; it belongs above all tables";
 
-const OF_SCENARIO: &str = "unknown key \"{}\"; a scenario has it, which has \"seconds\" too";
+const OF_SCENARIO: &str = "unknown key \"{}{}\"; a scenario has it, which has \"seconds\" too";
 
-const OF_BENCH: &str = "unknown key \"{}\"; a bench has it, but no scenario";
+const OF_BENCH: &str = "unknown key \"{}{}\"; a bench has it, but no scenario";
+
+const MEANT: &str = "unknown key \"{}{}\"; did you mean \"{}\"?";
+
+const NONE_ABOVE: &str =
+    "no event above this one has that name, and it is no alarm: 1201, 1202 or 1203";
+
+const BELOW: &str = "no event above this one has that name; event {}, below, has it";
+
+const NO_KEYS: &str =
+    "this looks like a script: trace, page, peaks, jobs and check read one with --script";
 
 const NO_ACTION: &str = "an action is nothing, or begins with novac, findvac, rouse or list";
 
@@ -79,58 +87,64 @@ fn expected_form(form: TextForm, text: &str) -> Message<'static> {
         fault_of(kinds, text)
     };
     match fault {
-        LineFault::Unknown(None) => message_of(other, NONE, NONE),
+        LineFault::Unknown(None) => plain(other),
         fault => fault.message_of(),
     }
 }
 
-/// The pieces for a range of numbers: from one to another, the other again, and the key's name.
-fn range(low: u64, high: u64, name: Part<'static>) -> [Part<'static>; 5] {
+/// The sentence for a range of numbers, with fields for two gaps behind it.
+fn range<'a>(text: &'static str, (low, high): (u64, u64), rest: [Field<'a>; 2]) -> Message<'a> {
     let between = if high.saturating_sub(low) == 1 {
         "or"
     } else {
         "to"
     };
-    let last = Part::Number(high);
-    [Part::Number(low), Part::Text(between), last, last, name]
+    let [first, second] = rest;
+    (
+        text,
+        [Number(low), Text(between), Number(high), first, second],
+    )
 }
 
-/// The sentence for a key whose value must be an integer, or may be something else, too.
-fn integer_message(key: Key) -> &'static str {
-    if key.name() == COST.name() {
+/// The sentence for a key whose value must be an integer in a range, or may be something else, too.
+fn integer_message(key: Key, low: u64, high: u64) -> Message<'static> {
+    if key.name() == STEAL.name() {
+        let tables = [Number(high), Text(key.name())];
+        return range(INTEGER_OR_TABLES, (low, high), tables);
+    }
+    let text = if key.name() == COST.name() {
         INTEGER_OR_TABLE
-    } else if key.name() == STEAL.name() {
-        INTEGER_OR_TABLES
     } else {
         INTEGER
-    }
+    };
+    range(text, (low, high), [NONE, NONE])
 }
 
 /// The sentence that says what the value of a key must be.
 fn expected_value(key: Key) -> Message<'static> {
-    let name = Part::Text(key.name());
+    let name = Text(key.name());
     match key.kind() {
-        Valued::Integer(low, high) => (integer_message(key), range(low, high, name)),
-        Valued::Flag => message_of("expected true or false", NONE, NONE),
-        Valued::Text(_form) => message_of("expected a string", NONE, NONE),
-        Valued::OneOrMore(_form, low, high) => (ONE_OR_MORE, range(low, high, name)),
-        Valued::Texts(_form, 0, _most) => message_of("expected an array of strings", NONE, NONE),
-        Valued::Texts(_form, count, _most) => message_of(TEXTS, Part::Number(count), NONE),
+        Valued::Integer(low, high) => integer_message(key, low, high),
+        Valued::Flag => plain("expected true or false"),
+        Valued::Text(_form) => plain("expected a string"),
+        Valued::OneOrMore(_form, low, high) => range(ONE_OR_MORE, (low, high), [NONE, NONE]),
+        Valued::Texts(_form, 0, _most) => plain("expected an array of strings"),
+        Valued::Texts(_form, count, _most) => message_of(TEXTS, Number(count), NONE),
         Valued::Tables(_least, u64::MAX) => message_of(TABLES, name, NONE),
         Valued::Tables(_least, most) | Valued::Explored(_least, most) => {
-            message_of(FEW_TABLES, Part::Number(most), name)
+            message_of(FEW_TABLES, Number(most), name)
         }
     }
 }
 
-/// Appends how octal digits without quotes must be written, if the finding's text is such digits.
-fn add_quoted(out: &mut String, wrong: Problem, text: &str) -> Result<(), AllocError> {
+/// Adds how octal digits without quotes must be written, if the finding's text is such digits.
+fn put_quoted(out: &mut Buffer, wrong: Problem, text: &str) {
     let is_text = !matches!(
         wrong,
         Problem::NoQuotes | Problem::Key(KeyFault::Value(_) | KeyFault::Item(_))
     );
     if is_text || text.bytes().any(|byte| !matches!(byte, b'0'..=b'7')) {
-        return Ok(());
+        return;
     }
     let zeros = match text.len() {
         1 => "0000",
@@ -138,10 +152,9 @@ fn add_quoted(out: &mut String, wrong: Problem, text: &str) -> Result<(), AllocE
         3 => "00",
         4 => "0",
         5 => "",
-        _ => return Ok(()),
+        _ => return,
     };
-    let digits = [Part::Text(zeros), Part::Text(text)];
-    put(out, ": write \"{}{}\"", &digits)
+    out.put(": write \"{}{}\"", &[Text(zeros), Text(text)]);
 }
 
 /// The keys of a table of this level.
@@ -172,6 +185,15 @@ fn top_of(level: Level) -> Level {
     }
 }
 
+/// The key `seconds`, if this name is like it at the top level of a document: without that key a
+/// scenario is read as a bench.
+fn seconds_if_meant(level: Level, name: &str) -> Option<Key> {
+    match level {
+        Level::Bench => meant_by(name, &[SECONDS]),
+        _ => None,
+    }
+}
+
 /// The sentence for a key that is unknown in a table of this level.
 fn unknown_key_message<'a>(level: Level, name: &'a str) -> Message<'a> {
     let is_key_of = |level: Level| with_name(name, keys_of(level)).is_some();
@@ -182,12 +204,13 @@ fn unknown_key_message<'a>(level: Level, name: &'a str) -> Message<'a> {
     } else if level == Level::Scenario && is_key_of(Level::Bench) {
         (OF_BENCH, "")
     } else {
-        match meant_by(name, keys_of(level)) {
-            Some(key) => ("unknown key \"{}\"; did you mean \"{}\"?", key.name()),
-            None => ("unknown key \"{}\"", ""),
+        match meant_by(name, keys_of(level)).or(seconds_if_meant(level, name)) {
+            Some(key) => (MEANT, key.name()),
+            None => ("unknown key \"{}{}\"", ""),
         }
     };
-    message_of(text, Part::Front(name), Part::Text(meant))
+    let (front, dots) = front_of(name);
+    (text, [front, dots, Text(meant), NONE, NONE])
 }
 
 /// The sentence for a fault of a key.
@@ -212,34 +235,35 @@ fn key_message<'a>(fault: KeyFault, text: &'a str) -> Message<'a> {
             "a cost \"from\" .. \"to\" needs the key \"seed\" in the scenario",
             "",
         ),
-        KeyFault::NoneAbove => ("no event above this one has that name", ""),
+        KeyFault::NoneAbove(None) => (NONE_ABOVE, ""),
+        KeyFault::NoneAbove(Some(number)) => return message_of(BELOW, Number(number), NONE),
     };
-    message_of(text, Part::Text(name), NONE)
+    message_of(text, Text(name), NONE)
 }
 
 /// The sentence for an error at one place of a bench, whose text is this.
 fn fault_message<'a>(wrong: Problem, text: &'a str) -> Message<'a> {
-    let said_so = match wrong {
+    let sentence = match wrong {
         Problem::Key(fault) => return key_message(fault, text),
         Problem::Text(form) => return expected_form(form, text),
-        Problem::NotToml => "not TOML: {}",
+        Problem::NotToml => return message_of("not TOML: {}", Text(text), NONE),
         Problem::NoQuotes => "not TOML: five octal digits need quotes",
-        Problem::NoKeys => "this looks like a script, not a bench: use check --script",
+        Problem::NoKeys => NO_KEYS,
         Problem::TaskTwice => "an earlier task has the same at and bank",
         Problem::PhaseTwice => "an earlier phase has the same group and phase",
         Problem::TooManyAreas => "each of the six groups has a job that wants a VAC area",
     };
-    message_of(said_so, Part::Text(text), NONE)
+    plain(sentence)
 }
 
-/// Appends the sentence for an error at one place of a bench, whose text is this.
-fn add_wrong(out: &mut String, wrong: Problem, text: &str) -> Result<(), AllocError> {
-    if let Problem::Text(_form) = wrong {
-        put(out, "\"{}\": ", &[Part::Front(text)])?;
+/// Adds the sentence for an error at one place of a bench, whose text is this.
+fn put_wrong(out: &mut Buffer, wrong: Problem, text: &str) {
+    if let Problem::Text(_) | Problem::Key(KeyFault::NoneAbove(_)) = wrong {
+        let (front, dots) = front_of(text);
+        out.put("\"{}{}\": ", &[front, dots]);
     }
-    let (said_so, pieces) = fault_message(wrong, text);
-    put(out, said_so, &pieces)?;
-    add_quoted(out, wrong, text)
+    put_message(out, fault_message(wrong, text));
+    put_quoted(out, wrong, text);
 }
 
 /// The name of an item of a key's array.
@@ -255,66 +279,45 @@ fn item_name(key: Key) -> &'static str {
 /// The sentence for a place, with a colon unless it is the whole document.
 fn location_text(place: Location) -> Message<'static> {
     let (text, key, pieces) = match place {
-        Location::Whole => return message_of("", NONE, NONE),
+        Location::Whole => return plain(""),
         Location::Value(key) => ("{}: ", key, [NONE; 3]),
         Location::Item(key, item) => {
-            let pieces = [Part::Text(item_name(key)), Part::Number(item), NONE];
+            let pieces = [Text(item_name(key)), Number(item), NONE];
             ("{}, {} {}: ", key, pieces)
         }
-        Location::Table(key, table) => ("{} {}: ", key, [Part::Number(table), NONE, NONE]),
+        Location::Table(key, table) => ("{} {}: ", key, [Number(table), NONE, NONE]),
         Location::Field(key, table, field) => {
-            let pieces = [Part::Number(table), Part::Text(field.name()), NONE];
+            let pieces = [Number(table), Text(field.name()), NONE];
             ("{} {}, {}: ", key, pieces)
         }
         Location::FieldItem(key, table, field, item) => {
-            let name = Part::Text(item_name(field));
-            (
-                "{} {}, {} {}: ",
-                key,
-                [Part::Number(table), name, Part::Number(item)],
-            )
+            let name = Text(item_name(field));
+            ("{} {}, {} {}: ", key, [Number(table), name, Number(item)])
         }
         Location::Subfield(key, table, field, of) => {
-            let (field, of) = (Part::Text(field.name()), Part::Text(of.name()));
-            ("{} {}, {}, {}: ", key, [Part::Number(table), field, of])
+            let (field, of) = (Text(field.name()), Text(of.name()));
+            ("{} {}, {}, {}: ", key, [Number(table), field, of])
         }
     };
     let [first, second, third] = pieces;
-    (text, [Part::Text(key.name()), first, second, third, NONE])
+    (text, [Text(key.name()), first, second, third, NONE])
 }
 
-/// Appends the number of a document's line, a mark, and a place.
-///
-/// # Errors
-///
-/// If memory runs out.
-pub fn add_where(
-    out: &mut String,
-    line: u64,
-    mark: &str,
-    place: Location,
-) -> Result<(), AllocError> {
-    put(out, "{}: {}", &[Part::Number(line), Part::Text(mark)])?;
-    let (text, pieces) = location_text(place);
-    put(out, text, &pieces)
+/// Adds the number of a document's line, a mark, and a place.
+pub(crate) fn put_where(out: &mut Buffer, line: u64, mark: &str, place: Location) {
+    out.put("{}: {}", &[Number(line), Text(mark)]);
+    put_message(out, location_text(place));
 }
 
-/// A line for each of the first twenty findings. Each begins with this text.
-///
-/// # Errors
-///
-/// If memory runs out.
-pub fn bench_messages(
-    alloc: Global,
-    before_line: &str,
-    findings: &[Finding],
-) -> Result<String, AllocError> {
-    let mut out = String::new(alloc);
-    for finding in findings.iter().take(MOST_TOLD) {
-        out.push_str(before_line)?;
-        add_where(&mut out, finding.line, "", finding.place)?;
-        add_wrong(&mut out, finding.wrong, finding.text.as_str())?;
-        out.push('\n')?;
+/// Adds a line for each of the first twenty findings, which begins with this text, and one that
+/// counts the others.
+pub fn put_bench_messages(out: &mut Buffer, before_line: &str, findings: &Findings) {
+    for finding in findings.list.iter().take(MOST_TOLD) {
+        out.text(before_line);
+        put_where(out, finding.line, "", finding.place);
+        put_wrong(out, finding.wrong, finding.text.as_str());
+        out.text("\n");
     }
-    Ok(out)
+    let left = findings.list.len().saturating_sub(MOST_TOLD);
+    put_more(out, left.saturating_add(findings.more));
 }

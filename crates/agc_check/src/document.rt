@@ -4,7 +4,7 @@ ghost use Rattle.toml.specs.Parse.{parse_document};
 ghost use Rattle.toml.specs.View.{table_view};
 ghost use Rattle.agc_check.specs.Documents.{IsNoDocument};
 
-use crate::finding::Finding;
+use crate::finding::Findings;
 use crate::reading::no_document_finding;
 use agc_document::table_of;
 use std::alloc::{AllocError, Global};
@@ -35,7 +35,7 @@ impl<'a> Model for Document<'a> {
 pub enum NoDocument {
     NoMemory,
     /// The text is no TOML, for this reason.
-    NotToml(Vec<Finding>),
+    NotToml(Findings),
 }
 
 impl From<AllocError> for NoDocument {

@@ -1,5 +1,5 @@
 //! The findings of a document, and where they are.
-ghost use Rattle.std.specs.Prelude.{◌≡◌, ◌≤◌, length, map, IfOk, OnOk};
+ghost use Rattle.std.specs.Prelude.{◌≡◌, ◌≤◌, [], length, map, IfOk, OnOk};
 ghost use Rattle.std.specs.List.{All};
 ghost use Rattle.std.specs.List.Sorted.{IsNonDecreasingBy, IsPermutation};
 ghost use Rattle.agc_check.specs.Findings.{line_ends, line_of, StandsIn, refusal_of};
@@ -40,6 +40,34 @@ impl Model for Finding {
       text = string_bytes f.text;
       wrong = f.wrong;
     } };
+}
+
+/// Findings of a document, and how many more it has. Contracts see those that are here.
+#[derive(Drop)]
+pub struct Findings {
+    pub list: Vec<Finding>,
+    pub more: usize,
+}
+
+impl Model for Findings {
+    ghost use Rattle.std.specs.Prelude.{List};
+    ghost use Rattle.agc_check.specs.Findings.{FindingView};
+
+    ghost Value = { List FindingView };
+
+    ghost view = { λ f. f.list.items };
+}
+
+impl Findings {
+    /// None at all.
+    pub(crate) fn none(alloc: Global) -> Findings
+        ensures { result ≡ [] }
+    {
+        Findings {
+            list: Vec::new(alloc),
+            more: 0,
+        }
+    }
 }
 
 /// The number of line ends in a text.
@@ -143,6 +171,25 @@ fn digits_at(document: &str, at: usize) -> &str {
     }
 }
 
+/// The text between quotes at a byte of a document; nothing if there are none.
+fn quoted_at(document: &str, at: usize) -> &str {
+    let rest = document.get(at..).unwrap_or("");
+    let quote = if rest.starts_with("\"\"\"") {
+        "\"\"\""
+    } else if rest.starts_with("'''") {
+        "'''"
+    } else if rest.starts_with('"') {
+        "\""
+    } else {
+        "'"
+    };
+    let behind = rest.strip_prefix(quote).unwrap_or("");
+    match behind.split_once(quote) {
+        Some((text, _rest)) => text,
+        None => "",
+    }
+}
+
 /// The text to quote for a fault of a key.
 fn key_text<'a>(document: &'a str, note: &KeyNote<'a>, spot: Position) -> &'a str
     ensures { say note.now.place (wrong_of.Key note.now.fault) result.now ≡ of_key note.now }
@@ -152,7 +199,8 @@ fn key_text<'a>(document: &'a str, note: &KeyNote<'a>, spot: Position) -> &'a st
         KeyFault::Missing(_key) => "",
         KeyFault::Backward | KeyFault::OverlapsItself => "",
         KeyFault::Overlap | KeyFault::JobTwice => "",
-        KeyFault::LeastAboveMost | KeyFault::NoSeed | KeyFault::NoneAbove => "",
+        KeyFault::LeastAboveMost | KeyFault::NoSeed => "",
+        KeyFault::NoneAbove(_) => quoted_at(document, spot.value),
         KeyFault::Value(key) | KeyFault::Item(key) => match key.form() {
             Some(TextForm::Address) | Some(TextForm::Word) => digits_at(document, spot.value),
             _ => "",

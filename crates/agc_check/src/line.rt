@@ -1,7 +1,8 @@
 //! Faults of lines, and their wording.
 use crate::line_form::{LineForm, LineWord, NO_REQUEST, REQUESTS};
-use crate::messages::{Message, Part, message_of};
+use crate::messages::{Message, NONE, message_of};
 use crate::names::{HasName, meant_by, with_name};
+use agc_text::Field::Text;
 
 /// Why a line is no request.
 #[derive(Clone, Copy)]
@@ -27,11 +28,11 @@ pub enum LineFault {
 
 const BYTE_ORDER_MARK: &str = "it begins with a byte order mark, which a script may not have";
 
-const OF_BENCH: &str = "this looks like a bench, not a script: use check without --script";
+const OF_BENCH: &str = "this looks like a bench, not a script: leave out --script";
 
 const TAB: &str = "it has a tab; words are separated by single spaces";
 
-const CAPITALS: &str = "write \"{}\" in small letters";
+const CAPITALS: &str = "write \"{}\" in lowercase";
 
 const MEANT: &str = "its first word is unknown; did you mean \"{}\"?";
 
@@ -100,6 +101,6 @@ impl LineFault {
             LineFault::Form(kind) => (FORM, kind.form()),
             LineFault::Operand(part) => ("{}", part.spelling()),
         };
-        message_of(text, Part::Text(filling), Part::Text(""))
+        message_of(text, Text(filling), NONE)
     }
 }

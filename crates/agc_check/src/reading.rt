@@ -7,7 +7,7 @@ ghost use Rattle.agc_check.specs.Findings.{IsNote, to_say};
 ghost use Rattle.agc_document.specs.declared.fault.BenchFault.TheVariants as refusal;
 
 use crate::document::{Document, NoDocument};
-use crate::finding::{Finding, FindingText, findings_of, make_finding};
+use crate::finding::{Finding, FindingText, Findings, findings_of, make_finding};
 use crate::locate::places_in;
 use crate::problem::Problem;
 use agc_document::{Bench, BenchFault, KeyNote, Location, Notes, TextNote, bench_of};
@@ -18,25 +18,20 @@ use toml::de::Error;
 #[derive(Drop)]
 pub struct CheckedBench {
     pub bench: Option<Bench>,
-    pub findings: Vec<Finding>,
+    pub findings: Findings,
 }
 
 /// The finding at one byte, and no others.
 #[tactic(auto, using(crate::proofs::Found::found_alone))]
-fn one_finding(
-    alloc: Global,
-    document: &str,
-    out: FindingText<'_>,
-) -> Result<Vec<Finding>, AllocError>
-    ensures are { IfOk result (λ v.
-        AreFindings document.now (refusal_of out.entry.wrong) v.items) }
-    ensures says { IfOk result (λ v. map message_of v.items
+fn one_finding(alloc: Global, document: &str, out: FindingText<'_>) -> Result<Findings, AllocError>
+    ensures are { IfOk result (λ v. AreFindings document.now (refusal_of out.entry.wrong) v) }
+    ensures says { IfOk result (λ v. map message_of v
         ≡ say out.entry.place out.entry.wrong out.entry.text.now ∷ []) }
 {
-    let mut findings: Vec<Finding> = Vec::new(alloc);
+    let mut list: Vec<Finding> = Vec::new(alloc);
     let one = make_finding(alloc, document, out)?;
-    findings.push(one)?;
-    Ok(findings)
+    list.push(one)?;
+    Ok(Findings { list, more: 0 })
 }
 
 /// The finding at one place, and no others.
@@ -45,9 +40,9 @@ fn finding_at(
     document: &str,
     place: Location,
     wrong: Problem,
-) -> Result<Vec<Finding>, AllocError>
-    ensures are { IfOk result (λ v. AreFindings document.now (refusal_of wrong) v.items) }
-    ensures says { IfOk result (λ v. map message_of v.items ≡ alone place wrong) }
+) -> Result<Findings, AllocError>
+    ensures are { IfOk result (λ v. AreFindings document.now (refusal_of wrong) v) }
+    ensures says { IfOk result (λ v. map message_of v ≡ alone place wrong) }
 {
     let places = places_in(alloc, document, &[place])?;
     let at = match places.as_slice().first() {
@@ -77,8 +72,8 @@ pub(crate) fn no_document_finding(
     alloc: Global,
     text: &str,
     error: &Error,
-) -> Result<Vec<Finding>, AllocError>
-    ensures { IfOk result (λ v. AreFindings text.now refusal.NotToml v.items) }
+) -> Result<Findings, AllocError>
+    ensures { IfOk result (λ v. AreFindings text.now refusal.NotToml v) }
 {
     if !text.contains('=') {
         return one_finding(alloc, text, FindingText::of_whole(0, "", Problem::NoKeys));
@@ -118,38 +113,40 @@ fn or_alone<'a, N: Copy>(alone: &'a [N], noted: &'a [N]) -> &'a [N]
     }
 }
 
-/// The findings of keys first, then those of texts.
+/// The findings of keys first, then those of texts. The notes say how many more there are.
 #[tactic(auto, using(crate::proofs::Found::found_both, crate::proofs::Found::says_both))]
-fn keys_and_texts(
-    alloc: Global,
-    document: &str,
-    notes: &Notes<'_>,
-) -> Result<Vec<Finding>, AllocError>
-    ensures are { IfOk result (λ v. AreFindings document.now refusal.Key v.items) }
+fn keys_and_texts(alloc: Global, document: &str, notes: &Notes<'_>) -> Result<Findings, AllocError>
+    ensures are { IfOk result (λ v. AreFindings document.now refusal.Key v) }
     ensures says { IfOk result (λ v. 1 ≤ length notes.now.keys.items → IsPermutation
         (map of_key notes.now.keys.items ++ map of_text notes.now.texts.items)
-        (map message_of v.items)) }
+        (map message_of v)) }
 {
     let alone = [KeyNote::default()];
     let mut found = findings_of(alloc, document, or_alone(&alone, notes.keys.as_slice()))?;
     let mut texts = findings_of(alloc, document, notes.texts.as_slice())?;
     found.append(&mut texts)?;
-    Ok(found)
+    Ok(Findings {
+        list: found,
+        more: notes.more,
+    })
 }
 
-/// The findings of texts, and no others.
+/// The findings of texts, and no others. The notes say how many more there are.
 #[tactic(auto, using(crate::proofs::Found::found_front))]
-fn texts_alone(alloc: Global, document: &str, notes: &Notes<'_>) -> Result<Vec<Finding>, AllocError>
-    ensures are { IfOk result (λ v. AreFindings document.now refusal.Line v.items) }
+fn texts_alone(alloc: Global, document: &str, notes: &Notes<'_>) -> Result<Findings, AllocError>
+    ensures are { IfOk result (λ v. AreFindings document.now refusal.Line v) }
     ensures says { IfOk result (λ v. 1 ≤ length notes.now.texts.items → IsPermutation
-        (map of_text notes.now.texts.items) (map message_of v.items)) }
+        (map of_text notes.now.texts.items) (map message_of v)) }
 {
     let alone = [TextNote::default()];
-    findings_of(alloc, document, or_alone(&alone, notes.texts.as_slice()))
+    Ok(Findings {
+        list: findings_of(alloc, document, or_alone(&alone, notes.texts.as_slice()))?,
+        more: notes.more,
+    })
 }
 
 /// The findings of a document that is refused for this fault: each note is reported once, and
-/// nothing else.
+/// nothing else. The notes say how many more there are.
 ///
 /// # Errors
 ///
@@ -160,11 +157,11 @@ pub fn findings_in(
     document: &str,
     notes: &Notes<'_>,
     fault: BenchFault,
-) -> Result<Vec<Finding>, AllocError>
-    ensures are { IfOk result (λ v. AreFindings document.now fault v.items) }
+) -> Result<Findings, AllocError>
+    ensures are { IfOk result (λ v. AreFindings document.now fault v) }
     ensures says { IfOk result (λ v. IsNote fault notes.now.keys.items notes.now.texts.items
         → IsPermutation (to_say fault notes.now.keys.items notes.now.texts.items notes.now.plan)
-        (map message_of v.items)) }
+        (map message_of v)) }
 {
     match fault {
         BenchFault::NoMemory => Err(AllocError),
@@ -180,20 +177,20 @@ pub fn findings_in(
 /// The bench that a document is, or why it is none: the same that `read_bench` says of it. Nothing
 /// is found in a bench. What is found first has the fault that `read_bench` returns; what is wrong
 /// with keys comes before what is wrong with texts, each in the order of the document, and of
-/// either at most twenty.
+/// either at most twenty, and the number of others.
 ///
 /// # Errors
 ///
 /// If memory runs out.
 #[tactic(auto, using(crate::proofs::Found::checks_refused, crate::proofs::Found::checks_bench))]
 pub fn bench_findings(alloc: Global, document: &Document<'_>) -> Result<CheckedBench, AllocError>
-    ensures { IfOk result (λ c. ChecksAs document.now c.bench c.findings.items) }
+    ensures { IfOk result (λ c. ChecksAs document.now c.bench c.findings) }
 {
     let mut notes = Notes::new(true);
     match bench_of(alloc, document.table(), &mut notes) {
         Ok(bench) => Ok(CheckedBench {
             bench: Some(bench),
-            findings: Vec::new(alloc),
+            findings: Findings::none(alloc),
         }),
         Err(fault) => {
             let findings = findings_in(alloc, document.text(), &notes, fault)?;
@@ -213,7 +210,7 @@ pub fn bench_findings(alloc: Global, document: &Document<'_>) -> Result<CheckedB
 /// If memory runs out.
 #[tactic(auto, using(crate::proofs::Found::checks_none))]
 pub fn findings(alloc: Global, text: &str) -> Result<CheckedBench, AllocError>
-    ensures { IfOk result (λ c. ChecksAs text.now c.bench c.findings.items) }
+    ensures { IfOk result (λ c. ChecksAs text.now c.bench c.findings) }
 {
     match Document::parse(alloc, text) {
         Ok(document) => bench_findings(alloc, &document),

@@ -1,15 +1,16 @@
 //! The warnings about stolen time, jobs and events of a scenario.
-use crate::messages::{Message, Part, message_of};
+use crate::messages::{Message, NONE, message_of, plain};
 use crate::warning::{
     AS_LONG_AS_IT_COMES, HIDDEN, LATE, NEVER, NEVER_STOLEN, NOT_AGAIN, NOT_BEGUN, NOTHING_LEFT,
     TWIN,
 };
-use crate::warnings::{Warning, WarningList, plain};
+use crate::warnings::{Warning, WarningList};
 use agc_clock::{LAST_TIME, Stolen, stolen_at};
 use agc_document::{Key, Location};
 use agc_plan::{Action, Actions, Address, JobStart, PhaseEntry, Request, Task, action_request};
 use agc_scenario::rows::{EVENTS, JOBS, STEAL};
 use agc_scenario::{Scenario, TimedEvent, TimedJob, Timing};
+use agc_text::Field::{Number, Text};
 use std::alloc::{AllocError, Global};
 use std::collections::BTreeSet;
 
@@ -134,12 +135,12 @@ fn period_at(scenario: &Scenario, at: Address) -> Option<u64> {
 
 /// The sentence for a job that is left no time.
 fn nothing_left(cost: u64, period: u64, stolen: u64) -> Message<'static> {
-    let (cost, period) = (Part::Number(cost), Part::Number(period));
+    let (cost, period) = (Number(cost), Number(period));
     if stolen == 0 {
         return message_of(AS_LONG_AS_IT_COMES, cost, period);
     }
-    let stolen = Part::Number(stolen);
-    (NOTHING_LEFT, [cost, period, stolen, stolen, stolen])
+    let stolen = Number(stolen);
+    (NOTHING_LEFT, [cost, period, stolen, NONE, NONE])
 }
 
 /// The warning about a job, if there is one; this percentage is always stolen.
@@ -231,7 +232,7 @@ fn note_jobs(
         if is_twin(&mut names, job.name())? {
             found.note(
                 place,
-                Warning::repeatable(message_of(TWIN, Part::Text("job"), Part::Text(""))),
+                Warning::repeatable(message_of(TWIN, Text("job"), NONE)),
             );
         }
         if let Some(warning) = job_warning(scenario, job, stolen) {
@@ -249,7 +250,7 @@ fn note_events(alloc: Global, found: &mut WarningList, timing: &Timing) -> Resul
         if is_twin(&mut names, event.name())? {
             found.note(
                 place,
-                Warning::repeatable(message_of(TWIN, Part::Text("event"), Part::Text(""))),
+                Warning::repeatable(message_of(TWIN, Text("event"), NONE)),
             );
         }
         if let Some(warning) = event_warning(timing, event) {

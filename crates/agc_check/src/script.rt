@@ -4,8 +4,9 @@ ghost use Rattle.agc_text.specs.Script.{IsFirstRefused, lines_of};
 ghost use Rattle.agc_check.specs.Scripts.{AreLineFindings};
 
 use crate::line::{LineFault, script_fault};
-use crate::messages::{Part, put};
-use agc_text::{ScriptFault, parse_line, read_script};
+use crate::messages::{NamedText, front_of, put_message};
+use agc_text::Field::Number;
+use agc_text::{Buffer, ScriptFault, parse_line, read_script};
 use std::alloc::{AllocError, Global};
 use std::marker::Model;
 
@@ -92,40 +93,40 @@ pub fn script_findings<'a>(alloc: Global, text: &'a str) -> Result<Vec<LineFindi
     }
 }
 
-/// Appends the sentence for a line of a script.
-fn add_finding(
-    out: &mut String,
-    before_line: &str,
-    finding: &LineFinding<'_>,
-) -> Result<(), AllocError> {
-    out.push_str(before_line)?;
-    let shown = [Part::Number(finding.line), Part::Front(finding.text)];
-    put(out, "{}: \"{}\": ", &shown)?;
-    let (text, pieces) = finding.fault.message_of();
-    put(out, text, &pieces)?;
-    out.push('\n')
+/// Adds the sentence for a line of a script.
+fn put_finding(out: &mut Buffer, before_line: &str, finding: &LineFinding<'_>) {
+    out.text(before_line);
+    let (front, dots) = front_of(finding.text);
+    out.put("{}: \"{}{}\": ", &[Number(finding.line), front, dots]);
+    put_message(out, finding.fault.message_of());
+    out.text("\n");
 }
 
-/// A line for each finding; for a bench, which is no script, only one. Each begins with this text.
-///
-/// # Errors
-///
-/// If memory runs out.
-pub fn script_messages(
-    alloc: Global,
-    before_line: &str,
-    findings: &[LineFinding<'_>],
-) -> Result<String, AllocError> {
-    let mut out = String::new(alloc);
-    for finding in findings {
-        let is_of_bench = matches!(finding.fault, LineFault::OfBench);
-        if is_of_bench {
-            out.clear();
-        }
-        add_finding(&mut out, before_line, finding)?;
-        if is_of_bench {
-            break;
-        }
+/// How many lines of a text after the one of this number are no requests.
+fn wrong_lines_behind(text: &str, last: u64) -> usize {
+    let numbered = (1u64..).zip(text.split_terminator('\n'));
+    let is_wrong = |line: &(u64, &str)| line.0 > last && parse_line(line.1).is_none();
+    numbered.filter(is_wrong).count()
+}
+
+/// Adds how many more findings there are, if there are any.
+pub(crate) fn put_more(out: &mut Buffer, count: usize) {
+    if count > 0 {
+        out.put("and {} more\n", &[Number(count as u64)]);
     }
-    Ok(out)
+}
+
+/// Adds a line for each finding of a text, and one that counts the others; for a bench, which is no
+/// script, only one. Each begins with the text that its name gives.
+pub fn put_script_messages(out: &mut Buffer, script: NamedText<'_>, findings: &[LineFinding<'_>]) {
+    let is_of_bench = |finding: &&LineFinding<'_>| matches!(finding.fault, LineFault::OfBench);
+    if let Some(finding) = findings.iter().find(is_of_bench) {
+        return put_finding(out, script.before_line, finding);
+    }
+    for finding in findings {
+        put_finding(out, script.before_line, finding);
+    }
+    if let Some(last) = findings.get(MOST_TOLD - 1) {
+        put_more(out, wrong_lines_behind(script.text, last.line));
+    }
 }

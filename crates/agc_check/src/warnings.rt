@@ -1,6 +1,6 @@
 //! The warnings about a bench.
 use crate::items::{Item, items_of};
-use crate::messages::{Message, Part, message_of};
+use crate::messages::{Message, NONE, message_of, plain};
 use crate::run_counts::RunCounts;
 use crate::scenario::note_timing;
 use crate::warning::{
@@ -12,6 +12,7 @@ use agc_document::{Bench, Location};
 use agc_plan::{Group, Line, Phase, PhaseEntry, Task};
 use agc_run::Subject;
 use agc_session::{asks_nothing, line_name};
+use agc_text::Field::{Number, Octal, Text};
 use agc_word::Word;
 use std::alloc::{AllocError, Global};
 use std::collections::{BTreeMap, BTreeSet};
@@ -46,11 +47,6 @@ impl Warning {
             once: Some(numbers),
         }
     }
-}
-
-/// A sentence without a number.
-pub(crate) fn plain(text: &'static str) -> Message<'static> {
-    message_of(text, Part::Text(""), Part::Text(""))
 }
 
 /// The tasks of a bench by their numbers: whether each has a row, and whether anything but its own
@@ -99,12 +95,12 @@ impl Tasks {
         if self.known.contains(&(true, numbers)) {
             return None;
         }
-        let (at, listed) = (Part::Octal(numbers.0), Part::Octal(numbers.1));
+        let (at, listed) = (Octal(numbers.0), Octal(numbers.1));
         let message = match self.banks.get(&numbers.0) {
             None => message_of(NO_ROW, at, listed),
             Some(bank) => {
-                let bank = Part::Octal(bank.bits());
-                (OTHER_BANK, [at, listed, bank, bank, bank])
+                let bank = Octal(bank.bits());
+                (OTHER_BANK, [at, listed, bank, NONE, NONE])
             }
         };
         Some(Warning::once_for(message, numbers))
@@ -127,16 +123,13 @@ fn phase_warning(bench: &Bench, group: Group, phase: Phase) -> Option<Warning> {
         return None;
     }
     let (group, phase) = (u16::from(group.get()), u16::from(phase.get()));
-    let of = (
-        Part::Number(u64::from(group)),
-        Part::Number(u64::from(phase)),
-    );
+    let of = (Number(u64::from(group)), Number(u64::from(phase)));
     Some(Warning::once_for(message_of(NO_ENTRY, of.0, of.1), (group, phase)))
 }
 
 /// The warning about a device.
 fn device_warning(bench: &Bench, line: Line) -> Option<Warning> {
-    let message = message_of(NO_REQUEST, Part::Text(line_name(line)), Part::Text(""));
+    let message = message_of(NO_REQUEST, Text(line_name(line)), NONE);
     asks_nothing(bench, line).then_some(Warning::repeatable(message))
 }
 
@@ -214,13 +207,13 @@ impl WarningList {
     /// was cut short.
     fn add_run(&mut self, bench: &Bench, ran: &RunCounts) {
         if let Some(first) = ran.log_full {
-            let limit = Part::Number(u64::from(bench.limit().get()));
-            let message = message_of(LOG_FULL, Part::Number(first), limit);
+            let limit = Number(u64::from(bench.limit().get()));
+            let message = message_of(LOG_FULL, Number(first), limit);
             self.add(Location::Value(LIMIT), Warning::repeatable(message));
         }
         if let Some(first) = ran.spent {
-            let allowance = Part::Number(bench.allowance());
-            let message = message_of(SPENT, Part::Number(first), allowance);
+            let allowance = Number(bench.allowance());
+            let message = message_of(SPENT, Number(first), allowance);
             self.add(Location::Value(ALLOWANCE), Warning::repeatable(message));
         }
         if ran.is_cut {

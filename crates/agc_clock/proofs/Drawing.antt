@@ -1,20 +1,18 @@
 -- What lots decide: how long a job computes that begins.
-use Rattle.std.proofs.Common.{◌≡◌, ℕ, zero, suc, ◌+◌, ◌-◌, ◌<◌, ◌≤◌, ◌==◌, ◌&&◌, nat_lt, min, Bool, true, false, cond, List, [], ◌++◌, length, length-set, replicate, Option, Some, None, get_or-set_same, append-nil, refl, sym, ap, ◌∙◌, inl, inr, arith}
+use Rattle.std.proofs.Common.{◌≡◌, ℕ, zero, suc, ◌+◌, ◌-◌, ◌<◌, ◌≤◌, ◌==◌, ◌&&◌, nat_lt, Bool, true, false, List, [], length, length-set, replicate, Some, None, get_or-set_same, append-nil, refl, sym, ap, ◌∙◌, arith}
 use Rattle.std.proofs.Math.Bool.{and-false}
-use Rattle.std.proofs.Math.Nat.{le_refl, min-le_left, min-le_right}
-use Rattle.std.proofs.lemmas.Bool.{cases_lt}
+use Rattle.std.proofs.Math.Nat.{le_refl, min-le_left}
 use Rattle.std.proofs.lemmas.Grind.{common_steps}
 use Rattle.agc_plan.specs.Jobs.{Jobs}
-use Rattle.agc_clock.specs.declared.asked.Asked.{Asked}
 use Rattle.agc_clock.specs.declared.counting.JobCost.{JobCost}
 use Rattle.agc_clock.specs.declared.timetable.Cost.{Cost}
 use Rattle.agc_clock.specs.Clocks.{Next, next_of}
-use Rattle.agc_clock.specs.Counts.{Counts, begun, draws, given_to, with_given, worker_of}
+use Rattle.agc_clock.specs.Counts.{Counts, begun, draws, given_to}
 use Rattle.agc_clock.specs.Instants.{Instant, Works, by_clock}
 use Rattle.agc_clock.specs.Laws.{Begins, drawn}
 use Rattle.agc_clock.specs.Timetables.{asked_of, needs, next_lot, spared, spread_of, step_at}
 use Rattle.agc_clock.proofs.Spending.{few_spared}
-use Rattle.agc_clock.proofs.Working.{ends, its_request, works_on}
+use Rattle.agc_clock.proofs.Working.{ends, works_on}
 
 pub drawn_some : (cost : Cost) (lot : ℕ) → 1 ≤ drawn cost lot
 drawn_some cost lot = let few = few_spared cost lot in omega arith

@@ -4,6 +4,7 @@ mod Scanning
 mod Seats
 mod Passing
 mod Working
+mod Elapsing
 pub mod Scenarios
 mod Keeping
 mod Spending

@@ -20,9 +20,9 @@ use Rattle.agc_clock.specs.Reading.{Passes}
 use Rattle.agc_clock.proofs.Passing.{behind_is, next_asks}
 
 -- with nobody to work they pass
-pub idle : (costs : List Cost) (jobs : Jobs) (left : ℕ) (after : List Instant) (counts : Counts) → worker_of costs jobs ≡ None → next_of costs jobs (replicate left Works ++ after) counts ≡ next_of costs jobs after counts
+pub idle : (costs : List Cost) (jobs : Jobs) (left : ℕ) (after : List Instant) (counts : Counts) → (0 < left → worker_of costs jobs ≡ None) → next_of costs jobs (replicate left Works ++ after) counts ≡ next_of costs jobs after counts
 idle costs jobs zero after counts none = refl
-idle costs jobs (suc left) after counts none = rw none (idle costs jobs left after counts none)
+idle costs jobs (suc left) after counts none = rw (none (omega arith)) (idle costs jobs left after counts (λ some. none (omega arith)))
 
 -- what a worker is asked that has got so much, and what it then counts
 abbrev pub its_request : JobCost → ℕ → Asked
@@ -133,7 +133,7 @@ give_passes table jobs w old new start passed looked works some begins place les
   time_is = is.time_is;
 }
 
-pub nobody_works : (table : Schedule) (jobs : Jobs) (old new : Clocked) → length table.events ≤ old.event → old.looks ≡ false → worker_of table.costs jobs ≡ None → IsWorked old new 0 old.counts → Passes table jobs old new
+pub nobody_works : (table : Schedule) (jobs : Jobs) (old new : Clocked) → length table.events ≤ old.event → old.looks ≡ false → (0 < old.left → worker_of table.costs jobs ≡ None) → IsWorked old new 0 old.counts → Passes table jobs old new
 nobody_works table jobs old new passed looked none is = record {
   next_is =
       ap (λ (l : List Instant). next_of table.costs jobs l old.counts) (worked_comes table old passed looked)

@@ -5,6 +5,7 @@ pub mod Timetables
 pub mod Instants
 pub mod Counts
 pub mod Clocks
+pub mod Elapsing
 pub mod Reading
 pub mod Runs
 pub mod Laws

@@ -1,15 +1,17 @@
 // The clock.
-ghost use Rattle.std.specs.Prelude.{◌≡◌, ◌≤◌, ◌<◌, ◌+◌, ◌^◌, false, length, None, Some, slice_get};
-ghost use Rattle.std.specs.Prelude.{IfSome};
+ghost use Rattle.std.specs.Prelude.{◌≡◌, ◌≤◌, ◌<◌, ◌+◌, ◌*◌, ◌-◌, ◌^◌, ◌==◌, true, false, length};
+ghost use Rattle.std.specs.Prelude.{IfSome, None, Some, if◌then◌else◌, slice_get};
 ghost use Rattle.agc_exec.specs.Image.{IsLawfulWords, jobs_in};
 ghost use Rattle.agc_plan.specs.Jobs.{Jobs};
 ghost use Rattle.agc_clock.specs.Clocks.{AsksNext, Clocked, at_start};
 ghost use Rattle.agc_clock.specs.Counts.{begun, kept, worker_of};
+ghost use Rattle.agc_clock.specs.Elapsing.{Elapses, computes, elapsed_between};
 ghost use Rattle.agc_clock.specs.Reading.{AsksOrPasses, first_of};
 ghost use Rattle.agc_clock.specs.Timetables.{Schedule};
 
 use crate::asked::{Asked, Source, by_clock};
 use crate::counting::{JobCost, is_by_lot, kept, needs, next_lot, share_at, spared, spend, worker};
+use crate::elapsed::Elapsed;
 use crate::timetable::Timetables;
 use agc_exec::named_job;
 use agc_plan::Request;
@@ -120,6 +122,8 @@ impl Clock {
         ensures stage { (jobs : Jobs)
             → AsksOrPasses (T.set_down table.now) jobs self.old result self.new }
         ensures passed { result ≡ None → length (T.set_down table.now).events ≤ self.new.event }
+        ensures time { self.new.time ≡ self.old.time }
+        ensures left { self.new.left ≡ self.old.left }
     {
         let mut asked = self.asked;
         for event in self.event..table.events() {
@@ -147,6 +151,8 @@ impl Clock {
             → AsksOrPasses table (jobs_in words.now) self.old result self.new }
         ensures looked { self.new.looks ≡ false }
         ensures events { self.new.event ≡ self.old.event }
+        ensures time { self.new.time ≡ self.old.time }
+        ensures left { self.new.left ≡ self.old.left }
     {
         let looks = self.looks;
         self.looks = false;
@@ -181,6 +187,8 @@ impl Clock {
         ensures worked { result ≡ None → self.new.left ≡ 0 }
         ensures looked { self.new.looks ≡ false }
         ensures events { self.new.event ≡ self.old.event }
+        ensures time { self.new.time ≡ self.old.time }
+        ensures left { self.new.left ≤ self.old.left }
     {
         let place = usize::from(worker.number) - 1;
         let given = self.given[place];
@@ -199,23 +207,26 @@ impl Clock {
         }
     }
 
-    /// Gives the running job what is left of the computing time, until its cost is used up.
+    /// Gives the running job what is left of the computing time, until its cost is used up. What no
+    /// job computes stays left.
     fn work<T: Timetables>(&mut self, words: &Erasable, table: &T) -> Option<Asked>
         requires lawful { IsLawfulWords words.now }
         requires passed { length (T.set_down table.now).events ≤ self.old.event }
         requires looked { self.old.looks ≡ false }
         ensures stage { AsksOrPasses (T.set_down table.now) (jobs_in words.now) self.old result
             self.new }
-        ensures worked { result ≡ None → self.new.left ≡ 0 }
+        ensures worked { computes (T.set_down table.now) (jobs_in words.now) ≡ true
+            → result ≡ None → self.new.left ≡ 0 }
+        ensures nobody { computes (T.set_down table.now) (jobs_in words.now) ≡ false
+            → (result ≡ None) × (self.new.left ≡ self.old.left) }
         ensures looked { self.new.looks ≡ false }
         ensures events { self.new.event ≡ self.old.event }
+        ensures time { self.new.time ≡ self.old.time }
+        ensures left { self.new.left ≤ self.old.left }
     {
         let worker = match worker(table, words) {
             Some(worker) => worker,
-            None => {
-                self.left = 0;
-                return None;
-            }
+            None => return None,
         };
         if self.left == 0 {
             return None;
@@ -224,45 +235,74 @@ impl Clock {
         self.give(&worker)
     }
 
-    /// The next centisecond's tick, if there is one.
-    fn tick<T: Timetables>(&mut self, table: &T) -> Option<Asked>
+    /// The next centisecond's tick, if there is one, and how much of that centisecond is stolen.
+    /// What is left of the one before passes, without a job that computes.
+    fn tick<T: Timetables>(&mut self, table: &T) -> (Option<Asked>, u32)
         requires passed { length (T.set_down table.now).events ≤ self.old.event }
         requires looked { self.old.looks ≡ false }
-        requires worked { self.old.left ≡ 0 }
-        ensures { (jobs : Jobs) → AsksNext (T.set_down table.now) jobs self.old result self.new }
+        ensures next { (jobs : Jobs)
+            → (0 < self.old.left → worker_of (T.set_down table.now).costs jobs ≡ None)
+            → AsksNext (T.set_down table.now) jobs self.old result.0 self.new }
+        ensures stolen { result.1
+            ≡ (if self.old.time == self.new.time then 0 else 100 - self.new.left) }
+        ensures time { (100 * self.old.time + self.new.left) + result.1 ≡ 100 * self.new.time }
     {
+        self.left = 0;
         if self.time >= table.lasts() {
-            return None;
+            return (None, 0);
         }
         self.time += 1;
         self.event = 0;
         self.asked = 0;
         self.looks = true;
         self.left = share_at(table, self.time);
-        Some(by_clock(Request::Tick))
+        (Some(by_clock(Request::Tick)), 100 - self.left)
     }
 
     /// The next request, and who asks for it, with these words of the machine, which were not
     /// changed since the last [`served`](Clock::served) was told of them; None when the time is
     /// over. Each centisecond: a tick; the events of its time; where NEWJOB names a set, a change
-    /// of job; then what the running job does, each time its cost is used up.
-    pub fn next<T: Timetables>(&mut self, words: &Erasable, table: &T) -> Option<Asked>
+    /// of job; then what the running job does, each time its cost is used up. With it comes the
+    /// time that passed since the request before.
+    pub fn next<T: Timetables>(&mut self, words: &Erasable, table: &T) -> (Option<Asked>, Elapsed)
         requires { IsLawfulWords words.now }
-        ensures { AsksNext (T.set_down table.now) (jobs_in words.now) self.old result self.new }
+        ensures next { AsksNext (T.set_down table.now) (jobs_in words.now) self.old result.0
+            self.new }
+        ensures elapsed { result.1
+            ≡ elapsed_between (computes (T.set_down table.now) (jobs_in words.now)) self.old
+            self.new }
+        ensures all_elapsed { Elapses self.old result.1 self.new }
     {
         let asked = self.next_event(table);
         if asked.is_some() {
-            return asked;
+            return (asked, Elapsed::none());
         }
         let asked = self.look(words);
         if asked.is_some() {
-            return asked;
+            return (asked, Elapsed::none());
         }
+        let left = self.left();
         let asked = self.work(words, table);
+        let idle = self.left();
         if asked.is_some() {
-            return asked;
+            return (
+                asked,
+                Elapsed {
+                    computed: left - idle,
+                    stolen: 0,
+                    idle: 0,
+                },
+            );
         }
-        self.tick(table)
+        let (asked, stolen) = self.tick(table);
+        (
+            asked,
+            Elapsed {
+                computed: left - idle,
+                stolen,
+                idle,
+            },
+        )
     }
 
     /// Takes the outcome of a request: the machine's words after it, and whether an era began with

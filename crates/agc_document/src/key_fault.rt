@@ -45,6 +45,7 @@ pub enum KeyFault {
     LeastAboveMost,
     /// The cost of a job is drawn by lot, and the scenario has no seed.
     NoSeed,
-    /// No event above this one has the name from which it counts.
-    NoneAbove,
+    /// No event above this one has the name from which it counts. The event of this number, from 1,
+    /// has it, if one below does.
+    NoneAbove(Option<u64>),
 }

@@ -49,12 +49,13 @@ impl<'a> Default for TextNote<'a> {
 }
 
 /// The faults of a document: the first twenty of its keys and the first twenty of its texts, or
-/// none if they aren't wanted; and the place where its rows and entries make no plan, or the whole
-/// document if they do.
+/// none if they aren't wanted; how many more it has; and the place where its rows and entries make
+/// no plan, or the whole document if they do.
 #[derive(Drop)]
 pub struct Notes<'a> {
     pub keys: ArrayVec<KeyNote<'a>, MOST_NOTED>,
     pub texts: ArrayVec<TextNote<'a>, MOST_NOTED>,
+    pub more: usize,
     pub plan: Location,
     is_whole: bool,
 }
@@ -65,6 +66,7 @@ impl<'a> Notes<'a> {
         Notes {
             keys: ArrayVec::new(),
             texts: ArrayVec::new(),
+            more: 0,
             plan: Location::Whole,
             is_whole,
         }
@@ -76,6 +78,8 @@ impl<'a> Notes<'a> {
     {
         if self.is_whole && self.keys.len() < MOST_NOTED {
             self.keys.push(KeyNote { place, text, fault });
+        } else {
+            self.more = self.more.saturating_add(1);
         }
         BenchFault::Key
     }
@@ -85,8 +89,13 @@ impl<'a> Notes<'a> {
         let Some(form) = key.form() else {
             return;
         };
-        if self.is_whole && self.texts.len() < MOST_NOTED && !form.is_spelled_by(text) {
+        if !self.is_whole || form.is_spelled_by(text) {
+            return;
+        }
+        if self.texts.len() < MOST_NOTED {
             self.texts.push(TextNote { place, text, form });
+        } else {
+            self.more = self.more.saturating_add(1);
         }
     }
 }

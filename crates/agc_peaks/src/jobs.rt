@@ -4,7 +4,6 @@ ghost use Rattle.std.specs.List.{fold};
 ghost use Rattle.agc_machine.specs.Machines.{after};
 ghost use Rattle.agc_run.specs.Runs.{to_ask};
 
-use crate::clock_position::{ClockPosition, Elapsed};
 use crate::job_statistics::JobStatistics;
 use crate::jobs_rows::put_jobs;
 use crate::live_jobs::jobs_in;
@@ -16,53 +15,25 @@ use agc_table::{Table, TableForm};
 use std::alloc::{AllocError, Global};
 use std::io::Write;
 
-/// The time that passed before a request, or up to the end. In a bench none of it is known to be
-/// computed, stolen or idle.
-fn elapsed(
-    run: &Run<'_>,
-    before: &ClockPosition,
-    after: &ClockPosition,
-    is_asked: bool,
-) -> Elapsed {
-    match run.clock() {
-        None => Elapsed {
-            computed: 0,
-            stolen: 0,
-            idle: 0,
-        },
-        Some(_clock) => before.elapsed(after, is_asked && before.time == after.time),
-    }
-}
-
-/// The number of ticks, with this request.
-fn ticks_with(ticks: u64, request: &Request) -> u64 {
-    ticks.saturating_add(u64::from(*request == Request::Tick))
-}
-
 /// Makes all requests of a run, in order, and no others, and follows its jobs.
 fn jobs_to_end(job_statistics: &mut JobStatistics<'_>, run: &mut Run<'_>) -> Result<(), AllocError>
     ensures { OnOk result (run.new.machine
         ≡ fold after run.old.machine (to_ask run.old.machine run.old.pending)) }
 {
-    let mut ticks: u64 = 0;
-    let mut before = ClockPosition::of(run.clock(), ticks);
     while let Some(asked) = run.next() {
-        let after = ClockPosition::of(run.clock(), ticks_with(ticks, &asked.request));
-        let elapsed_now = elapsed(run, &before, &after, true);
-        job_statistics.pass(elapsed_now, after.time, after.moment());
+        job_statistics.pass(run.elapsed(), run.clock());
         let answer = run.ask(&asked);
         if let Ok(reply) = &answer {
-            ticks = ticks_with(ticks, &asked.request);
+            if run.clock().is_none() && asked.request == Request::Tick {
+                job_statistics.pass_tick();
+            }
             job_statistics.update(&jobs_in(run.words_left(&answer)))?;
             if reply.begins() {
                 job_statistics.begin_era(&jobs_in(run.machine().erasable()))?;
             }
         }
-        before = ClockPosition::of(run.clock(), ticks);
     }
-    let after = ClockPosition::of(run.clock(), ticks);
-    let elapsed_last = elapsed(run, &before, &after, false);
-    job_statistics.pass(elapsed_last, after.time, after.moment());
+    job_statistics.pass(run.elapsed(), run.clock());
     job_statistics.close()
 }
 

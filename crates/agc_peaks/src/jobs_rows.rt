@@ -1,5 +1,7 @@
 //! The table of a run's jobs.
-use crate::job_statistics::{AddressStatistics, EraTime, JobStatistics};
+use crate::address_statistics::AddressStatistics;
+use crate::era_time::EraTime;
+use crate::job_statistics::JobStatistics;
 use agc_scenario::{TimedJob, Timing};
 use agc_table::{Row, Table, TableForm, left, right};
 use agc_text::Field;

@@ -2,9 +2,12 @@
 //! differences between two documents, and the bench of a scenario.
 #![tactic(auto)]
 
-mod clock_position;
+mod address_statistics;
 mod comparing;
+mod computed_by_job;
 mod era;
+mod era_time;
+mod eras_rows;
 mod finding;
 mod job_statistics;
 mod jobs;

@@ -1,4 +1,5 @@
 //! How full the tables were, era by era.
+use crate::era::Boundary;
 use crate::run_statistics::RunStatistics;
 use crate::running::{RunReport, run_to_end, send_table};
 use agc_run::{Run, Subject};
@@ -11,7 +12,7 @@ use std::io::Write;
 /// Adds the row of the last era and, unless it is for other programs, how many requests were
 /// refused.
 fn put_last(table: &mut Table, statistics: &RunStatistics, has_time: bool) {
-    statistics.era("the end").fill(has_time, table);
+    statistics.row(Boundary::End).fill(0, has_time, table);
     table.end_row();
     match statistics.refused {
         _ if !table.is_text() => {}
@@ -31,8 +32,8 @@ fn put_eras<W: Write>(
     writer: &mut W,
 ) -> Result<(), RunFault> {
     RunStatistics::new(run.machine())
-        .era("")
-        .fill(has_time, table);
+        .row(Boundary::End)
+        .fill(0, has_time, table);
     table.end_heading();
     let statistics = run_to_end(run, RunReport::Eras(has_time), table, writer)?;
     put_last(table, &statistics, has_time);

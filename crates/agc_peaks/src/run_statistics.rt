@@ -1,23 +1,28 @@
 //! The statistics of a run.
-ghost use Rattle.std.specs.Prelude.{◌≡◌, is_some};
-ghost use Rattle.agc_clock.specs.Runs.{begins_with};
+ghost use Rattle.std.specs.Prelude.{◌≡◌, List, [], None, is_some};
+ghost use Rattle.agc_machine.specs.Machines.{Machined, begins_with};
+ghost use Rattle.agc_peaks.specs.Runs.{AreStatistics, Entry, entry_of, occupancy_now, with_era};
+ghost use Rattle.agc_peaks.specs.Steps.{IsAnswered, IsBegun, IsNoted, IsOneMore, with_alarm};
 
-use crate::clock_position::{ClockPosition, ComputedByJob};
-use crate::era::Era;
+use crate::era::{Boundary, EraStatistics, Record};
+use crate::eras_rows::EraRow;
 use crate::occupancy::{Occupancy, occupancy_of};
-use agc_clock::Clock;
 use agc_machine::{Machine, Refusal};
 use agc_plan::{Alarm, Reply, Request};
-use agc_text::alarm_code;
 
-/// The statistics of all eras that have ended.
+/// The first alarm of a run, and the centisecond at which it came.
+#[derive(Clone, Copy)]
+pub(crate) struct FirstAlarm {
+    pub(crate) alarm: Alarm,
+    pub(crate) time: u64,
+}
+
+/// The first alarm of a run and how many came, and the most core sets, areas and places of the
+/// Waitlist that were taken at once.
 #[derive(Clone, Copy)]
 pub(crate) struct RunPeaks {
-    /// The code of the first alarm, and the centisecond at which it came, where there were any.
-    pub(crate) code: &'static str,
-    pub(crate) at: u64,
+    pub(crate) first_alarm: Option<FirstAlarm>,
     pub(crate) alarms: u64,
-    /// The most core sets, areas and places of the Waitlist that were taken at once.
     pub(crate) sets: u64,
     pub(crate) areas: u64,
     pub(crate) tasks: u64,
@@ -25,10 +30,12 @@ pub(crate) struct RunPeaks {
 
 impl RunPeaks {
     /// Those of no era.
-    pub(crate) fn none() -> RunPeaks {
+    pub(crate) fn none() -> RunPeaks
+        ensures { result
+            ≡ record { first_alarm = None; alarms = 0; sets = 0; areas = 0; tasks = 0 } }
+    {
         RunPeaks {
-            code: "",
-            at: 0,
+            first_alarm: None,
             alarms: 0,
             sets: 0,
             areas: 0,
@@ -36,21 +43,37 @@ impl RunPeaks {
         }
     }
 
-    /// Adds an era that has ended.
-    fn include(&mut self, era: &Era) {
+    /// Adds the peaks of an era.
+    fn include(&mut self, era: &EraStatistics)
+        ensures { self.new ≡ with_era era.now self.old }
+    {
         self.sets = self.sets.max(era.sets.count);
         self.areas = self.areas.max(era.areas.count);
         self.tasks = self.tasks.max(era.tasks.count);
     }
 
-    /// Notes an alarm at a centisecond.
-    fn note_alarm(&mut self, code: &'static str, time: u64) {
-        if self.alarms == 0 {
-            self.code = code;
-            self.at = time;
+    /// Notes an alarm at a centisecond, if there is one.
+    fn note_alarm(&mut self, alarm: Option<Alarm>, time: u64)
+        ensures { self.new ≡ with_alarm alarm time self.old }
+    {
+        match alarm {
+            None => {}
+            Some(alarm) => {
+                let first_alarm = FirstAlarm { alarm, time };
+                self.first_alarm = self.first_alarm.or(Some(first_alarm));
+                self.alarms = self.alarms.saturating_add(1);
+            }
         }
-        self.alarms = self.alarms.saturating_add(1);
     }
+}
+
+/// A request, its answer, and how full the tables were as it left them, before an era began with
+/// it.
+#[derive(Clone, Copy)]
+pub(crate) struct AnsweredRequest<'a> {
+    pub(crate) request: &'a Request,
+    pub(crate) answer: &'a Result<Reply, Refusal>,
+    pub(crate) left: Occupancy,
 }
 
 /// The statistics of a run.
@@ -58,120 +81,125 @@ impl RunPeaks {
 pub(crate) struct RunStatistics {
     /// Ticks that were served, requests that came, and those of them that were refused.
     pub(crate) time: u64,
-    pub(crate) asked: u64,
+    pub(crate) requests: u64,
     pub(crate) refused: u64,
     /// The longest that the log has been.
     pub(crate) longest: u32,
     /// How full the tables are.
     occupancy: Occupancy,
-    /// Computing of the jobs that are alive since they were established or roused, in hundredths of
-    /// a centisecond, before the present request.
-    computed: ComputedByJob,
-    era: Era,
+    /// The present era: its number, by what it began, and its statistics.
+    pub(crate) number: u64,
+    by: Boundary,
+    era: EraStatistics,
+    /// The peaks of all eras that have ended.
     peaks: RunPeaks,
 }
 
 impl RunStatistics {
     /// The statistics of a machine before the first request.
-    pub(crate) fn new(machine: &Machine) -> RunStatistics {
+    pub(crate) fn new(machine: &Machine) -> RunStatistics
+        ensures statistics { AreStatistics machine.now [] result }
+        ensures time { result.time ≡ 0 }
+        ensures occupancy { result.occupancy ≡ occupancy_now machine.now }
+    {
         let occupancy = occupancy_of(machine.erasable());
         RunStatistics {
             time: 0,
-            asked: 0,
+            requests: 0,
             refused: 0,
             longest: 0,
             occupancy,
-            computed: ComputedByJob::new(),
-            era: Era::new(1, 0, "start", occupancy),
+            number: 1,
+            by: Boundary::Start,
+            era: EraStatistics::new(0, occupancy),
             peaks: RunPeaks::none(),
         }
     }
 
-    /// The statistics of the present era, if this ends it.
-    pub(crate) fn era(&self, end: &'static str) -> Era {
-        let mut era = self.era;
-        era.ended = self.time;
-        era.end = end;
-        era
+    /// The row of the present era, if this ends it.
+    pub(crate) fn row(&self, end: Boundary) -> EraRow
+        ensures number { result.number ≡ self.now.number }
+        ensures by { result.by ≡ self.now.by }
+        ensures ended { result.ended ≡ self.now.time }
+        ensures end { result.end ≡ end }
+        ensures era { result.statistics ≡ self.now.era }
+    {
+        EraRow {
+            number: self.number,
+            by: self.by,
+            ended: self.time,
+            end,
+            statistics: self.era,
+        }
     }
 
-    /// The statistics of all eras, including the present one.
-    pub(crate) fn peaks(&self) -> RunPeaks {
+    /// The peaks of all eras, including the present one.
+    pub(crate) fn peaks(&self) -> RunPeaks
+        ensures { result ≡ with_era self.now.era self.now.peaks }
+    {
         let mut peaks = self.peaks;
         peaks.include(&self.era);
         peaks
     }
 
     /// Counts a request that was served, which left the tables this full before an era began with
-    /// it.
-    fn note(&mut self, request: &Request, occupancy: Occupancy, logged: u32) {
-        if *request == Request::Tick {
-            self.time = self.time.saturating_add(1);
-            let idle = u64::from(!self.occupancy.runs);
-            self.era.idle = self.era.idle.saturating_add(idle);
-        }
-        self.era.serve(self.occupancy, occupancy, self.time);
-        self.occupancy = occupancy;
+    /// it, and after which the log had so many requests.
+    fn note(&mut self, request: &Request, left: Occupancy, logged: u32)
+        ensures { IsNoted request.now left logged self.old self.new }
+    {
+        let ticks = u64::from(request.is_tick());
+        self.time = self.time.saturating_add(ticks);
+        self.era.serve(&Record {
+            request: *request,
+            time: self.time,
+            before: self.occupancy,
+            left,
+        });
+        self.occupancy = left;
         self.longest = self.longest.max(logged);
     }
 
-    /// Begins an era with this request, by an alarm or without one. Returns the one that ended.
-    fn begin(&mut self, machine: &Machine, request: &Request, alarm: Option<Alarm>) -> Era {
-        let mut by = "restart";
-        let mut end = "restart";
-        match alarm {
-            Some(alarm) => {
-                by = alarm_code(alarm);
-                end = by;
-                self.peaks.note_alarm(by, self.time);
-            }
-            None if *request == Request::Fresh => end = "fresh start",
-            None => {}
-        }
-        let mut ended = self.era(end);
-        ended.lost = self.computed.sum();
-        self.peaks.include(&ended);
+    /// Begins an era with this request, by an alarm or without one. Returns the row of the one that
+    /// ended.
+    fn begin(&mut self, machine: &Machine, request: &Request, alarm: Option<Alarm>) -> EraRow
+        ensures { IsBegun request.now alarm (occupancy_now machine.now) self.old self.new result }
+    {
+        let boundary = Boundary::of(request, alarm);
+        let ended = self.row(boundary);
+        self.peaks.note_alarm(alarm, self.time);
+        self.peaks.include(&self.era);
         self.occupancy = occupancy_of(machine.erasable());
-        self.era = Era::new(
-            ended.number.saturating_add(1),
-            self.time,
-            by,
-            self.occupancy,
-        );
+        self.number = self.number.saturating_add(1);
+        self.by = boundary;
+        self.era = EraStatistics::new(self.time, self.occupancy);
         ended
     }
 
-    /// Notes the time that a clock has given to jobs, before a machine is asked for a request.
-    pub(crate) fn pass(&mut self, clock: Option<&Clock>) {
-        self.computed.pass(ClockPosition::of(clock, 0));
-    }
-
-    /// Notes how much of that time a clock keeps, after a machine was asked.
-    pub(crate) fn keep(&mut self, clock: Option<&Clock>) {
-        self.computed.keep(ClockPosition::of(clock, 0));
-    }
-
-    /// Counts the answer to a request, which left the tables this full before an era began with it.
-    /// Returns the era that ended with it.
+    /// Counts a request that this machine was asked for. Returns the row of the era that ended with
+    /// it.
     pub(crate) fn note_answer(
         &mut self,
         machine: &Machine,
-        request: &Request,
-        occupancy: Occupancy,
-        answer: &Result<Reply, Refusal>,
-    ) -> Option<Era>
-        ensures { is_some result ≡ begins_with answer.now }
+        answered: &AnsweredRequest<'_>,
+    ) -> Option<EraRow>
+        ensures ends { is_some result ≡ begins_with answered.now.answer.now }
+        ensures counts { (start : Machined) (es : List Entry) (m : Machined)
+            → AreStatistics start es self.old → self.old.occupancy ≡ occupancy_now m
+            → IsAnswered m answered.now.request.now machine.now answered.now.answer.now
+            answered.now.left
+            → IsOneMore start es (entry_of m self.old.time answered.now.request.now) self.new
+            result }
     {
-        self.asked = self.asked.saturating_add(1);
-        match answer {
+        self.requests = self.requests.saturating_add(1);
+        match answered.answer {
             Err(_refusal) => {
                 self.refused = self.refused.saturating_add(1);
                 None
             }
             Ok(reply) => {
-                self.note(request, occupancy, machine.log_len());
+                self.note(answered.request, answered.left, machine.log_len());
                 if reply.begins() {
-                    Some(self.begin(machine, request, reply.alarm()))
+                    Some(self.begin(machine, answered.request, reply.alarm()))
                 } else {
                     None
                 }

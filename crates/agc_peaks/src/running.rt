@@ -3,10 +3,13 @@ ghost use Rattle.std.specs.Prelude.{◌≡◌, IfOk};
 ghost use Rattle.std.specs.List.{fold};
 ghost use Rattle.agc_machine.specs.Machines.{after};
 ghost use Rattle.agc_run.specs.Runs.{to_ask};
+ghost use Rattle.agc_run.specs.Subjects.{machine_of, own_requests};
+ghost use Rattle.agc_peaks.specs.Runs.{IsRunStatistics};
 
-use crate::era::Era;
+use crate::computed_by_job::ComputedByJob;
+use crate::eras_rows::EraRow;
 use crate::occupancy::occupancy_of;
-use crate::run_statistics::RunStatistics;
+use crate::run_statistics::{AnsweredRequest, RunStatistics};
 use agc_document::put_script_line;
 use agc_plan::Request;
 use agc_run::{Run, Subject};
@@ -28,10 +31,11 @@ pub(crate) enum RunReport {
 }
 
 impl RunReport {
-    /// Adds the row of an era that ended with a request, if eras are written.
-    fn put(self, ended: Option<Era>, table: &mut Table) {
+    /// Adds the row of an era that ended with a request, if eras are written, with the computing
+    /// that was lost with that.
+    fn put(self, ended: Option<EraRow>, computed: &ComputedByJob, table: &mut Table) {
         if let (RunReport::Eras(has_time), Some(era)) = (self, ended) {
-            era.fill(has_time, table);
+            era.fill(computed.sum(), has_time, table);
             table.end_row();
         }
     }
@@ -62,18 +66,25 @@ pub(crate) fn run_to_end<W: Write>(
     table: &mut Table,
     writer: &mut W,
 ) -> Result<RunStatistics, Output>
-    ensures { IfOk result (λ _. run.new.machine
+    ensures machine { IfOk result (λ _. run.new.machine
         ≡ fold after run.old.machine (to_ask run.old.machine run.old.pending)) }
+    ensures statistics { IfOk result (λ s. IsRunStatistics run.old.machine
+        (to_ask run.old.machine run.old.pending) s) }
 {
     let mut statistics = RunStatistics::new(run.machine());
-    while let Some(asked) = run.next() {
-        statistics.pass(run.clock());
-        let answer = run.ask(&asked);
-        let occupancy = occupancy_of(run.words_left(&answer));
-        let ended = statistics.note_answer(run.machine(), &asked.request, occupancy, &answer);
-        statistics.keep(run.clock());
-        report.put(ended, table);
-        report.write(&asked.request, table, writer)?;
+    let mut computed = ComputedByJob::new();
+    while let Some(call) = run.next() {
+        computed.pass(run.machine().erasable(), run.elapsed().computed);
+        let answer = run.ask(&call);
+        let answered = AnsweredRequest {
+            request: &call.request,
+            answer: &answer,
+            left: occupancy_of(run.words_left(&answer)),
+        };
+        let ended = statistics.note_answer(run.machine(), &answered);
+        report.put(ended, &computed, table);
+        computed.keep(run.clock());
+        report.write(&call.request, table, writer)?;
     }
     Ok(statistics)
 }
@@ -82,17 +93,20 @@ pub(crate) fn run_to_end<W: Write>(
 pub(crate) fn statistics_without_report(
     alloc: Global,
     run: &mut Run<'_>,
-) -> Result<RunStatistics, RunFault> {
+) -> Result<RunStatistics, RunFault>
+    ensures { IfOk result (λ s. IsRunStatistics run.old.machine
+        (to_ask run.old.machine run.old.pending) s) }
+{
     let mut table = Table::new(alloc, TableForm::Csv)?;
     let statistics = run_to_end(run, RunReport::Nothing, &mut table, &mut io::sink())?;
     Ok(statistics)
 }
 
 /// The statistics of the run of a bench or a scenario.
-pub(crate) fn statistics_of(
-    alloc: Global,
-    subject: Subject<'_>,
-) -> Result<RunStatistics, RunFault> {
+pub(crate) fn statistics_of(alloc: Global, subject: Subject<'_>) -> Result<RunStatistics, RunFault>
+    ensures { IfOk result
+        (λ s. IsRunStatistics (machine_of subject.entry) (own_requests subject.entry) s) }
+{
     let mut run = subject.run(alloc)?;
     statistics_without_report(alloc, &mut run)
 }

@@ -1,5 +1,5 @@
 //! The outcome of a document's run, for comparing it with another's.
-use crate::job_statistics::AddressStatistics;
+use crate::address_statistics::AddressStatistics;
 use crate::jobs::job_statistics_of;
 use crate::jobs_rows::{fill_deadline, fill_times, name_at};
 use crate::run_statistics::RunStatistics;
@@ -9,6 +9,7 @@ use agc_scenario::Timing;
 use agc_session::RunFault;
 use agc_table::{Row, right};
 use agc_text::Field::{Number, Seconds, Text};
+use agc_text::alarm_code;
 use std::alloc::{AllocError, Global};
 
 /// The statistics of an address's jobs: its name, if a scenario gives one, the address, and the
@@ -89,14 +90,14 @@ fn all_jobs(alloc: Global, subject: Subject<'_>) -> Result<Vec<JobsSummary>, Run
 /// Adds a run's totals to a row.
 fn fill_totals(row: &mut Row, statistics: &RunStatistics) {
     let peaks = statistics.peaks();
-    let first = match peaks.alarms {
-        0 => (Text("none"), None),
-        _ => (Text(peaks.code), Some(Seconds(peaks.at))),
+    let first = match peaks.first_alarm {
+        None => (Text("none"), None),
+        Some(first) => (Text(alarm_code(first.alarm)), Some(Seconds(first.time))),
     };
     row.cell(right("seconds", "", 0), Seconds(statistics.time));
-    row.cell(right("requests", "", 0), Number(statistics.asked));
+    row.cell(right("requests", "", 0), Number(statistics.requests));
     row.cell(right("refused", "", 0), Number(statistics.refused));
-    row.cell(right("eras", "", 0), Number(statistics.era("").number));
+    row.cell(right("eras", "", 0), Number(statistics.number));
     row.cell(right("alarms", "", 0), Number(peaks.alarms));
     row.cell(right("first alarm", "", 0), first.0);
     row.option(right("first alarm at", "", 0), first.1);

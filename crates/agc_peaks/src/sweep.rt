@@ -1,12 +1,18 @@
 //! A scenario's run for each value of one of its numbers.
+ghost use Rattle.std.specs.Prelude.{IfOk};
+ghost use Rattle.agc_word.specs.Profiles.{count_of};
+ghost use Rattle.agc_run.specs.Runs.{clock_requests};
+ghost use Rattle.agc_session.specs.Runs.{machine_on};
+ghost use Rattle.agc_peaks.specs.Runs.{ArePeaks};
+
 use crate::run_statistics::RunPeaks;
 use crate::running::statistics_without_report;
 use agc_run::{PendingRequests, Run};
 use agc_scenario::{Number, Scenario};
 use agc_session::{Progress, RunFault, machine_on};
 use agc_table::{Row, Table, TableForm, left, right};
-use agc_text::Field;
 use agc_text::Field::{Seconds, Text};
+use agc_text::{Field, alarm_code};
 use agc_word::Sets;
 use std::alloc::{AllocError, Global};
 use std::io::Write;
@@ -60,7 +66,11 @@ impl Axis<'_> {
 }
 
 /// The peaks of a scenario's run on this many core sets.
-fn peaks_in(alloc: Global, scenario: &Scenario, sets: Sets) -> Result<RunPeaks, RunFault> {
+fn peaks_in(alloc: Global, scenario: &Scenario, sets: Sets) -> Result<RunPeaks, RunFault>
+    ensures { IfOk result (λ peaks. ArePeaks (machine_on (count_of sets) scenario.now.bench)
+        (clock_requests scenario.now.timing (machine_on (count_of sets) scenario.now.bench))
+        peaks) }
+{
     let machine = machine_on(alloc, scenario.bench(), sets)?;
     let mut run = Run::new(machine, PendingRequests::of_scenario(scenario.timing()));
     match statistics_without_report(alloc, &mut run) {
@@ -115,9 +125,12 @@ fn fill(row: &mut Row, axes: &[Axis<'_>], values: &[u64], peaks: &RunPeaks, none
         let width = axis.name.chars().count().max(10);
         row.cell(right(axis.name, axis.name, width), Field::Number(*value));
     }
-    let (alarm, at) = match peaks.alarms {
-        0 => (none, None),
-        _ => (Some(Text(peaks.code)), Some(Seconds(peaks.at))),
+    let (alarm, at) = match peaks.first_alarm {
+        None => (none, None),
+        Some(first) => (
+            Some(Text(alarm_code(first.alarm))),
+            Some(Seconds(first.time)),
+        ),
     };
     row.option(left("alarm", "alarm", 5), alarm);
     row.option(right("at", "at", 9), at);

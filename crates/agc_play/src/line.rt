@@ -1,5 +1,5 @@
 //! The command on a line, and the message about a line that has none.
-use agc_check::{LineFault, LineFinding, script_findings, script_messages};
+use agc_check::{LineFault, LineFinding, NamedText, put_script_messages, script_findings};
 use agc_plan::Request;
 use agc_text::Field::{Number, Text};
 use agc_text::{Buffer, parse_line};
@@ -93,18 +93,16 @@ pub(crate) fn tell_line(buffer: &mut Buffer, number: u64, sentence: &str) {
 
 /// Says of a line, which may have been meant as a request, what `check --script` says; and where no
 /// request begins with its first word, which may be meant as a command, how commands are found.
-fn tell_fault(
-    alloc: Global,
-    finding: LineFinding<'_>,
-    buffer: &mut Buffer,
-) -> Result<(), AllocError> {
+fn tell_fault(finding: LineFinding<'_>, buffer: &mut Buffer) {
     let is_unknown = matches!(finding.fault, LineFault::Unknown(_));
-    let told = script_messages(alloc, "line ", &[finding])?;
-    buffer.text(told.as_str());
+    let line = NamedText {
+        before_line: "line ",
+        text: finding.text,
+    };
+    put_script_messages(buffer, line, &[finding]);
     if is_unknown {
         buffer.text("help says what else a line may be\n");
     }
-    Ok(())
 }
 
 /// Adds what is wrong with a line that is no command, by its number.
@@ -122,7 +120,6 @@ pub(crate) fn tell_wrong(
         LineFault::OfBench => {
             let sentence = "this is a line of a bench; agc_watch play FILE begins from a bench";
             tell_line(buffer, number, sentence);
-            Ok(())
         }
         fault => {
             let finding = LineFinding {
@@ -130,7 +127,8 @@ pub(crate) fn tell_wrong(
                 text,
                 fault,
             };
-            tell_fault(alloc, finding, buffer)
+            tell_fault(finding, buffer);
         }
     }
+    Ok(())
 }

@@ -227,7 +227,7 @@ impl Player {
         ensures { self.new ≡ self.old }
     {
         let first = ObservedMachine::new(machine_of(alloc, bench)?);
-        self.rows.begin(&first, Some(bench));
+        self.rows.begin(&first, bench);
         Ok(())
     }
 

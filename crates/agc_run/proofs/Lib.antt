@@ -1,4 +1,5 @@
 mod Resting
 mod Passing
+mod Elapsing
 mod Plain
 pub mod Following

@@ -1,5 +1,5 @@
 -- How a run comes to its end.
-use Rattle.std.proofs.Common.{◌≡◌, ℕ, Bool, true, false, cond, zero, suc, ◌+◌, ◌-◌, ◌*◌, ◌≤◌, List, [], ◌∷◌, ◌++◌, Option, Some, None, Result, refl, sym, ap, ◌∙◌, arith, subst, map, drop, replicate, append-nil, append_assoc}
+use Rattle.std.proofs.Common.{◌≡◌, ℕ, Bool, cond, zero, suc, ◌+◌, ◌-◌, ◌*◌, List, [], ◌∷◌, ◌++◌, Option, Some, None, Result, refl, sym, ap, ◌∙◌, arith, subst, map, drop, replicate, append-nil, append_assoc}
 use Rattle.std.specs.List.{fold, range_with_len}
 use Rattle.std.proofs.Math.Nat.{le_refl}
 use Rattle.std.proofs.lemmas.List.{append_cancel_right, drop-map}
@@ -19,8 +19,8 @@ use Rattle.agc_clock.specs.Clocks.{AsksNext, Clocked, Next, at_start, events_lef
 use Rattle.agc_clock.specs.Coming.{Coming, comes}
 use Rattle.agc_clock.specs.Counts.{Counts, Passed, kept, passed}
 use Rattle.agc_clock.specs.Events.{Event}
-use Rattle.agc_clock.specs.Instants.{Instant, Asks, Looks, Works, asks_of, by_clock, by_event, centisecond, centiseconds, events_at, is_own_tick}
-use Rattle.agc_clock.specs.Runs.{Standing, begins_with, by_machine, goes_on, served, standing_at}
+use Rattle.agc_clock.specs.Instants.{Instant, Asks, Looks, Works, asks_of, by_clock, by_event, centisecond, centiseconds, events_at}
+use Rattle.agc_clock.specs.Runs.{begins_with, by_machine, goes_on, served}
 use Rattle.agc_clock.specs.Timetables.{Schedule, share_at}
 use Rattle.agc_clock.proofs.Hearing.{nothing_moved}
 use Rattle.agc_clock.proofs.Scenarios.{no_tick_is_left}

@@ -1,16 +1,15 @@
 -- A scenario in which no event counts from an alarm.
-use Rattle.std.proofs.Common.{◌≡◌, ℕ, zero, suc, ◌+◌, ◌*◌, List, [], ◌∷◌, ◌++◌, Option, Some, None, refl, sym, ap, ◌∙◌, map}
+use Rattle.std.proofs.Common.{◌≡◌, ℕ, zero, suc, ◌+◌, ◌*◌, List, [], ◌∷◌, Option, None, refl, sym, ap, ◌∙◌, map}
 use Rattle.std.specs.List.{AllByRecursion, fold}
 use Rattle.std.proofs.lemmas.List.Sums.{fold-append}
 use Rattle.agc_plan.specs.declared.reply.Alarm.{Alarm}
 use Rattle.agc_machine.specs.Machines.{Machined}
 use Rattle.agc_clock.specs.declared.alarms.Alarms.{Alarms}
-use Rattle.agc_clock.specs.declared.asked.Asked.{Asked as TimeAsked}
 use Rattle.agc_clock.specs.declared.timetable.Cost.{Cost}
 use Rattle.agc_clock.specs.Alarms.{none_came}
 use Rattle.agc_clock.specs.Coming.{Coming}
 use Rattle.agc_clock.specs.Events.{Event}
-use Rattle.agc_clock.specs.Instants.{Instant, centisecond, centiseconds, events_at, instants}
+use Rattle.agc_clock.specs.Instants.{Instant, centisecond, centiseconds, events_at}
 use Rattle.agc_clock.specs.Runs.{Standing, by_machine, lived, lived_all, run, scenario_requests, standing_at}
 use Rattle.agc_clock.specs.Timetables.{Schedule}
 use Rattle.agc_scenario.specs.Scenarios.{Timed, TimedEvent, comes_by, counted_by, event_of, first_of, last_time_of, schedule_of, seed_of}

@@ -12,6 +12,8 @@ use Rattle.agc_clock.specs.declared.asked.Asked.{Asked as TimeAsked}
 use Rattle.agc_clock.specs.Alarms.{came}
 use Rattle.agc_clock.specs.Clocks.{Clocked, events_left, look_left}
 use Rattle.agc_clock.specs.Counts.{kept}
+use Rattle.agc_clock.specs.Elapsing.{computes, elapsed_between, none_elapsed}
+use Rattle.agc_clock.specs.declared.elapsed.Elapsed.{Elapsed}
 use Rattle.agc_clock.specs.Instants.{Instant, Works}
 use Rattle.agc_clock.specs.Runs.{Standing, begins_with}
 use Rattle.agc_clock.specs.Timetables.{Schedule}
@@ -135,12 +137,23 @@ Pulls m old (Some asked) new =
     all_to_ask m old ≡ asked ∷ all_to_ask (after m asked.request) (asks_after m new asked)
 Pulls m old None new = all_to_ask m old ≡ []
 
--- a run: a machine, what its last request did before an era began with it, and what it is still to
--- be asked for
+-- the time that passed, with these jobs, from one request to the next; without a clock none is
+-- known
+abbrev pub elapsed_by : Option Timed → Jobs → Alarms → Clocked → Clocked → Elapsed
+elapsed_by None jobs alarms old new = none_elapsed
+elapsed_by (Some timed) jobs alarms old new =
+    elapsed_between (computes (schedule_of timed alarms) jobs) old new
+
+abbrev pub elapsed_in : Jobs → Pending → Pending → Elapsed
+elapsed_in jobs old new = elapsed_by old.timing jobs old.alarms old.clock new.clock
+
+-- a run: a machine, what its last request did before an era began with it, what it is still to be
+-- asked for, and the time that passed last
 pub record Running : Type 0 where
   pub machine : Machined
   pub snapshot : Acting
   pub pending : Pending
+  pub elapsed : Elapsed
 
 -- a run whose machine is watched
 pub record WatchingRun : Type 0 where

@@ -62,7 +62,8 @@ impl<'a> ObservedRun<'a> {
     pub fn next(&mut self) -> Option<(Source, Event)>
         ensures { Comes self.old result self.new }
     {
-        let asked = match self.pending.next(self.watched.machine().erasable()) {
+        let (asked, _elapsed) = self.pending.next(self.watched.machine().erasable());
+        let asked = match asked {
             None => return None,
             Some(asked) => asked,
         };

@@ -2,13 +2,14 @@
 ghost use Rattle.std.specs.Prelude.{◌≡◌, [], option_map};
 ghost use Rattle.agc_exec.specs.Image.{IsLawfulWords, jobs_in};
 ghost use Rattle.agc_machine.specs.Machines.{Machined, plain_of};
+ghost use Rattle.agc_clock.specs.Elapsing.{Elapses};
 ghost use Rattle.agc_clock.specs.Runs.{begins_with};
 ghost use Rattle.agc_run.specs.Going.{alarm_with};
 ghost use Rattle.agc_run.specs.Runs.{Pulls, alarms_with, all_to_ask, bench_asks, clock_after};
-ghost use Rattle.agc_run.specs.Runs.{clock_asks, rest, script_asks};
+ghost use Rattle.agc_run.specs.Runs.{clock_asks, elapsed_in, rest, script_asks};
 
 use crate::requests::Requests;
-use agc_clock::{Alarms, Clock};
+use agc_clock::{Alarms, Clock, Elapsed};
 use agc_document::Bench;
 use agc_machine::Refusal;
 use agc_plan::{Alarm, Reply, Request};
@@ -124,45 +125,48 @@ impl<'a> PendingRequests<'a> {
     }
 
     /// The next request and its source, given the machine's words; the machine must then be asked
-    /// for it. None once all have been made.
-    pub(crate) fn next(&mut self, words: &Erasable) -> Option<Call>
+    /// for it. None once all have been made. With it comes the time that passed since the request
+    /// before, which only a clock knows.
+    pub(crate) fn next(&mut self, words: &Erasable) -> (Option<Call>, Elapsed)
         requires { IsLawfulWords words.now }
-        ensures { (m : Machined) → jobs_in words.now ≡ (plain_of m).work.jobs
-            → Pulls m self.old result self.new }
+        ensures pulls { (m : Machined) → jobs_in words.now ≡ (plain_of m).work.jobs
+            → Pulls m self.old result.0 self.new }
+        ensures elapsed { result.1 ≡ elapsed_in (jobs_in words.now) self.old self.new }
+        ensures all_elapsed { Elapses self.old.clock result.1 self.new.clock }
     {
         match self.listed.next() {
             Some((source, request)) => {
-                return Some(Call {
-                    source: Source::Bench(source),
-                    request,
-                });
+                let source = Source::Bench(source);
+                return (Some(Call { source, request }), Elapsed::none());
             }
             None => return self.next_in_time(words),
         }
     }
 
     /// The next request of the clock.
-    fn next_in_time(&mut self, words: &Erasable) -> Option<Call>
+    fn next_in_time(&mut self, words: &Erasable) -> (Option<Call>, Elapsed)
         requires over { rest self.old.listed ≡ [] }
         requires lawful { IsLawfulWords words.now }
-        ensures { (m : Machined) → jobs_in words.now ≡ (plain_of m).work.jobs
-            → Pulls m self.old result self.new }
+        ensures pulls { (m : Machined) → jobs_in words.now ≡ (plain_of m).work.jobs
+            → Pulls m self.old result.0 self.new }
+        ensures elapsed { result.1 ≡ elapsed_in (jobs_in words.now) self.old self.new }
+        ensures all_elapsed { Elapses self.old.clock result.1 self.new.clock }
     {
         let timing = match self.timing {
-            None => return None,
+            None => return (None, Elapsed::none()),
             Some(timing) => timing,
         };
         let table = CurrentTimetable {
             timing,
             alarms: self.alarms,
         };
-        match self.clock.next(words, &table) {
-            None => return None,
+        let (asked, elapsed) = self.clock.next(words, &table);
+        match asked {
+            None => return (None, elapsed),
             Some(asked) => {
-                return Some(Call {
-                    source: Source::Time(asked.source),
-                    request: asked.request,
-                });
+                let source = Source::Time(asked.source);
+                let request = asked.request;
+                return (Some(Call { source, request }), elapsed);
             }
         }
     }

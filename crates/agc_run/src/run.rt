@@ -1,26 +1,28 @@
 // A run that is pulled: a machine, and its pending requests.
-ghost use Rattle.std.specs.Prelude.{◌≡◌, true, IfOk, option_map};
-ghost use Rattle.agc_machine.specs.Image.{AreLawful};
-ghost use Rattle.agc_machine.specs.Machines.{after, answer_of, fired_of};
+ghost use Rattle.std.specs.Prelude.{◌≡◌, true, false, IfOk, option_map};
+ghost use Rattle.agc_clock.specs.Elapsing.{Elapses};
+ghost use Rattle.agc_machine.specs.Image.{AreLawful, IsImage};
+ghost use Rattle.agc_machine.specs.Machines.{after, answer_of, begins_with, fired_of, plain_of};
 ghost use Rattle.agc_machine.specs.Moments.{IsMoment};
 ghost use Rattle.agc_plan.specs.Steps.{begins};
-ghost use Rattle.agc_run.specs.Runs.{Pulls, asks_after};
+ghost use Rattle.agc_run.specs.Runs.{Pulls, asks_after, elapsed_in};
 
 use crate::pending_requests::{Call, PendingRequests};
-use agc_clock::Clock;
+use agc_clock::{Clock, Elapsed};
 use agc_machine::{Machine, Moment, Refusal};
 use agc_plan::{Fired, Reply, Request};
 use agc_scene::begins_with;
 use agc_word::Erasable;
 use std::marker::Model;
 
-/// A run: a machine, what its last request did before an era began with it, and its pending
-/// requests.
+/// A run: a machine, what its last request did before an era began with it, its pending requests,
+/// and the time that passed last.
 #[derive(Drop)]
 pub struct Run<'a> {
     machine: Machine,
     snapshot: Moment,
     pending: PendingRequests<'a>,
+    elapsed: Elapsed,
 }
 
 impl<'a> Model for Run<'a> {
@@ -32,6 +34,7 @@ impl<'a> Model for Run<'a> {
       machine = r.machine;
       snapshot = r.snapshot;
       pending = r.pending;
+      elapsed = r.elapsed;
     } };
 }
 
@@ -46,6 +49,7 @@ impl<'a> Run<'a> {
             machine,
             snapshot,
             pending,
+            elapsed: Elapsed::none(),
         }
     }
 
@@ -71,13 +75,26 @@ impl<'a> Run<'a> {
         self.pending.clock()
     }
 
+    /// The time that passed between the last two requests, or from the last up to the end.
+    pub fn elapsed(&self) -> Elapsed
+        ensures { result ≡ self.now.elapsed }
+    {
+        self.elapsed
+    }
+
     /// The next request and its source; the machine must then be asked for it. None once all have
     /// been made.
     pub fn next(&mut self) -> Option<Call>
         ensures pulls { Pulls self.old.machine self.old.pending result self.new.pending }
         ensures machine { self.new.machine ≡ self.old.machine }
+        ensures elapsed { self.new.elapsed ≡ elapsed_in (plain_of self.old.machine).work.jobs
+            self.old.pending self.new.pending }
+        ensures all_elapsed { Elapses self.old.pending.clock self.new.elapsed
+            self.new.pending.clock }
     {
-        self.pending.next(self.machine.erasable())
+        let (asked, elapsed) = self.pending.next(self.machine.erasable());
+        self.elapsed = elapsed;
+        asked
     }
 
     /// Asks the machine for the request that came next.
@@ -90,6 +107,7 @@ impl<'a> Run<'a> {
             → IsMoment self.old.machine asked.now.request self.new.snapshot) }
         ensures pending { self.new.pending
             ≡ asks_after self.old.machine self.old.pending asked.now }
+        ensures elapsed { self.new.elapsed ≡ self.old.elapsed }
     {
         let answer = self
             .machine
@@ -109,7 +127,9 @@ impl<'a> Run<'a> {
     pub fn words_left(&self, answer: &Result<Reply, Refusal>) -> &Erasable
         requires { IfOk answer.now (λ reply. begins reply ≡ true
             → AreLawful self.now.snapshot.words) }
-        ensures { AreLawful result.now }
+        ensures lawful { AreLawful result.now }
+        ensures begun { begins_with answer.now ≡ true → result.now ≡ self.now.snapshot.words }
+        ensures goes_on { begins_with answer.now ≡ false → IsImage self.now.machine result.now }
     {
         if begins_with(answer) {
             self.snapshot.words()

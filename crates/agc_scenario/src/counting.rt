@@ -48,6 +48,17 @@ fn is_named(name: &Option<Text<'_>>, called: &str) -> bool
     }
 }
 
+/// The number, from 1, of the first event behind this place that has this name, if one does.
+fn number_named(events: &[EventTexts<'_>], place: usize, name: &Option<Text<'_>>) -> Option<u64> {
+    let called = name.as_ref()?.as_str();
+    for (k, event) in events.iter().enumerate() {
+        if k > place && is_named(&event.name, called) {
+            return Some((k as u64).saturating_add(1));
+        }
+    }
+    None
+}
+
 fn is_any_named(events: &[EventTexts<'_>], called: &str) -> bool
     ensures { result ≡ list_any (λ e. is_named called.now e.name) events.now }
 {
@@ -74,7 +85,8 @@ pub(crate) fn count_from_above(events: &[EventTexts<'_>], notes: &mut Notes<'_>)
     for (k, event) in events.iter().enumerate() {
         if !has_named(&events[..k], &event.after) {
             let place = Location::Field(EVENTS, (k as u64).saturating_add(1), AFTER);
-            notes.key(place, "", KeyFault::NoneAbove);
+            let number = number_named(events, k, &event.after);
+            notes.key(place, "", KeyFault::NoneAbove(number));
             return false;
         }
     }

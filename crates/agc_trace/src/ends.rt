@@ -69,19 +69,17 @@ fn ending(count: u64) -> &'static str {
     if count == 1 { "" } else { "s" }
 }
 
-/// Adds how many requests the machine of a bench, or of a script, refused.
-pub(crate) fn put_refused(buffer: &mut Buffer, refused: RefusalCounts, bench: Option<&Bench>) {
+/// Adds how many requests the machine of a bench refused.
+pub(crate) fn put_refused(buffer: &mut Buffer, refused: RefusalCounts, bench: &Bench) {
     let RefusalCounts { log_full, spent } = refused;
-    let (limit, allowance) = match bench {
-        None => (1000, 1_000_000),
-        Some(bench) => (u64::from(bench.limit().get()), bench.allowance()),
-    };
     if log_full > 0 {
-        let told = [Number(log_full), Text(ending(log_full)), Number(limit)];
+        let limit = Number(u64::from(bench.limit().get()));
+        let told = [Number(log_full), Text(ending(log_full)), limit];
         buffer.put("        {} request{} refused: log full (limit {})\n", &told);
     }
     if spent > 0 {
-        let told = [Number(spent), Text(ending(spent)), Number(allowance)];
+        let allowance = Number(bench.allowance());
+        let told = [Number(spent), Text(ending(spent)), allowance];
         buffer.put(
             "        {} request{} refused: spent (allowance {}, all served)\n",
             &told,

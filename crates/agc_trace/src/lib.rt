@@ -18,4 +18,4 @@ mod tracer;
 pub use columns::Columns;
 pub use laws::quiet_request_changes_the_time_alone;
 pub use trace_rows::{Rows, TraceFormat, TraceOptions};
-pub use tracer::{trace, trace_script};
+pub use tracer::trace;

@@ -71,6 +71,18 @@ fn fill_job(row: &mut Row, columns: &Columns, key: &'static str, seat: Option<Se
     row.option(left("", key, 0), job.or(Some(Text(""))));
 }
 
+/// How many core sets and VAC areas are taken.
+fn count_taken(scene: &Scene) -> (u64, u64) {
+    let (mut sets, mut areas) = (0_u64, 0_u64);
+    for seat in scene.seats() {
+        if let Some(seat) = *seat {
+            sets = sets.saturating_add(1);
+            areas = areas.saturating_add(u64::from(seat.area > 0));
+        }
+    }
+    (sets, areas)
+}
+
 /// The job that owns an area, from its core set.
 fn owner(scene: &Scene, area: u16) -> Option<Seat> {
     let seats = scene.seats().iter().flatten();
@@ -80,8 +92,7 @@ fn owner(scene: &Scene, area: u16) -> Option<Seat> {
 /// Adds the columns of a scene in CSV: the running job and its priority, how many core sets, VAC
 /// areas and tasks are taken, and the jobs in core sets and areas.
 fn fill_values(row: &mut Row, columns: &Columns, scene: &Scene) {
-    let jobs = || scene.seats().iter().flatten();
-    let areas = jobs().filter(|seat| seat.area > 0).count();
+    let (sets, areas) = count_taken(scene);
     let (number, priority) = match (scene.running(), scene.seats()) {
         (Some(number), [Some(seat), ..]) => {
             let number = Number(u64::from(number.get()));
@@ -91,8 +102,8 @@ fn fill_values(row: &mut Row, columns: &Columns, scene: &Scene) {
     };
     row.option(left("", "running", 0), number);
     row.option(left("", "priority", 0), priority);
-    row.cell(left("", "sets", 0), Number(jobs().count() as u64));
-    row.cell(left("", "areas", 0), Number(areas as u64));
+    row.cell(left("", "sets", 0), Number(sets));
+    row.cell(left("", "areas", 0), Number(areas));
     let tasks = Number(scene.waits().len() as u64);
     row.cell(left("", "tasks", 0), tasks);
     for (k, key) in SETS.iter().enumerate() {
@@ -169,8 +180,6 @@ impl Page {
 
     /// Adds the number, in text with a `!` if the request was refused, and the times.
     fn fill_times(&mut self, entry: TraceEntry<'_>) {
-        let is_text = self.table.is_text();
-        let row = &mut self.table.row;
         let (number, time, total, is_refused) = match entry {
             TraceEntry::Power(_) => (0, 0, 0, false),
             TraceEntry::Request(_, event) => {
@@ -178,20 +187,26 @@ impl Page {
                 (event.number, event.time, event.total, is_refused)
             }
         };
-        if is_text && is_refused {
+        let has_mark = is_refused && self.table.is_text();
+        let row = &mut self.table.row;
+        if has_mark {
             row.text.put("{}!", &[Number(number)]);
             row.end(left("no", "no", 8));
         } else {
             row.cell(left("no", "no", 8), Number(number));
         }
-        for (name, ticks) in [("time", time), ("total", total)] {
-            let field = if is_text {
-                self.columns.time(ticks)
-            } else {
-                Seconds(ticks)
-            };
-            row.cell(left(name, name, 8), field);
-        }
+        self.fill_time("time", time);
+        self.fill_time("total", total);
+    }
+
+    /// Adds a number of ticks, as a time.
+    fn fill_time(&mut self, name: &'static str, ticks: u64) {
+        let time = if self.table.is_text() {
+            self.columns.time(ticks)
+        } else {
+            Seconds(ticks)
+        };
+        self.table.row.cell(left(name, name, 8), time);
     }
 
     /// Adds the cells in front of the tables.

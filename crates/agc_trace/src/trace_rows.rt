@@ -159,11 +159,11 @@ impl Rows {
     }
 
     /// Adds the heading, and the outcome of power-up, if a bench has phase words.
-    pub fn begin(&mut self, watched: &ObservedMachine, bench: Option<&Bench>) {
+    pub fn begin(&mut self, watched: &ObservedMachine, bench: &Bench) {
         self.keep_scene(watched);
         let scene = watched.scene();
         self.put_heading(&scene);
-        if let Some(words) = bench.and_then(Bench::power) {
+        if let Some(words) = bench.power() {
             self.put_power(&words, &scene);
         }
     }
@@ -232,16 +232,14 @@ impl Rows {
         self.page.send(writer)
     }
 
-    /// Adds the lines after the last request of a bench or a script: how many requests were
-    /// refused, and the devices whose pulses make no requests.
-    pub fn end(&mut self, bench: Option<&Bench>) {
+    /// Adds the lines after the last request of a bench: how many requests were refused, and the
+    /// devices whose pulses make no requests.
+    pub fn end(&mut self, bench: &Bench) {
         self.put_left();
         match self.choice.form {
             TraceFormat::Rows(_form) if self.page.table.is_text() => {
                 put_refused(&mut self.page.table.lines, self.refused, bench);
-                if let Some(bench) = bench {
-                    put_idle(&mut self.page.table.lines, bench);
-                }
+                put_idle(&mut self.page.table.lines, bench);
             }
             TraceFormat::Rows(_form) => {}
             TraceFormat::Chart => self.chart.end(&mut self.page),

@@ -2,26 +2,24 @@
 ghost use Rattle.std.specs.List.{fold};
 ghost use Rattle.agc_run.specs.Subjects.{own_requests, machine_of};
 ghost use Rattle.agc_scene.specs.Events.{watched, watching_from};
-ghost use Rattle.agc_session.specs.Runs.{script_machine};
 ghost use Rattle.agc_session.specs.Shown.{EndsIn};
 
 use crate::columns::Columns;
 use crate::showing::{Shows, show};
 use crate::trace_rows::{Rows, TraceOptions};
 use agc_document::Bench;
-use agc_plan::Request;
-use agc_run::{ObservedRun, PendingRequests, Source, Subject};
+use agc_run::{ObservedRun, Source, Subject};
 use agc_scene::{Event, ObservedMachine};
-use agc_session::{Progress, RunFault, count_requests, script_machine};
+use agc_session::{Progress, RunFault, count_requests};
 use agc_text::Output;
 use std::alloc::{AllocError, Global};
 use std::io::Write;
 
-/// A trace in rows: for a bench, the report of its pulses ends it.
+/// A trace in rows, and the bench of which it is.
 #[derive(Drop)]
 struct TraceWriter<'a> {
     rows: Rows,
-    bench: Option<&'a Bench>,
+    bench: &'a Bench,
 }
 
 impl<'a> Shows for TraceWriter<'a> {
@@ -51,8 +49,10 @@ fn trace_writer_of<'a>(
 ) -> Result<TraceWriter<'a>, AllocError> {
     let columns = Columns::of(alloc, subject)?;
     let rows = Rows::new(alloc, choice, columns)?;
-    let bench = Some(subject.bench());
-    Ok(TraceWriter { rows, bench })
+    Ok(TraceWriter {
+        rows,
+        bench: subject.bench(),
+    })
 }
 
 /// Announces how many requests there will be if they can be counted without a run: those of a
@@ -87,31 +87,5 @@ pub fn trace<P: Progress, W: Write>(
     expect_counted(subject, progress);
     let told = trace_writer_of(alloc, subject, choice)?;
     let run = subject.watched(alloc)?;
-    show(run, told, progress, writer)
-}
-
-/// Writes the trace of a script in the same way: the machine is that of `run_script`.
-///
-/// # Errors
-///
-/// `NoMemory`, and nothing was written. `Output` if a write failed, or took nothing of what was
-/// left, or there was no memory for a long row.
-pub fn trace_script<P: Progress, W: Write>(
-    alloc: Global,
-    requests: &[Request],
-    choice: TraceOptions,
-    progress: &mut P,
-    writer: &mut W,
-) -> Result<ObservedMachine, RunFault>
-    ensures { EndsIn (fold watched (watching_from script_machine) requests.now)
-        (W.contents writer.old) (W.contents writer.new) result }
-{
-    let machine = script_machine(alloc)?;
-    let told = TraceWriter {
-        rows: Rows::new(alloc, choice, Columns::of_bench(alloc, false))?,
-        bench: None,
-    };
-    progress.expect(requests.len() as u64);
-    let run = ObservedRun::new(machine, PendingRequests::of_script(requests));
     show(run, told, progress, writer)
 }

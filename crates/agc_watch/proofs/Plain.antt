@@ -5,8 +5,8 @@ use Rattle.std.proofs.lemmas.List.Concat.{flat_map-cons}
 use Rattle.std.proofs.lemmas.List.Folds.{list_all-append}
 use Rattle.std.proofs.lemmas.Bool.{eqb-true}
 use Rattle.agc_watch.specs.Data.{spelled, data_of, is_plain, read_from, IsData}
-use Rattle.agc_watch.specs.Pages.{IsPage, IsWorkbench}
-use Rattle.agc_watch.specs.declared.page.TheConstants.{CLOSING}
+use Rattle.agc_watch.specs.Pages.{IsPage, IsWorkbench, closing_of}
+use Rattle.agc_watch.specs.declared.page.PageView.{PageView}
 
 -- a byte that is neither
 plain_if : (b : ℕ) (less back : Bool) → (b == 60) ≡ less → (b == 92) ≡ back → list_all is_plain (if less then 92 ∷ 108 ∷ [] else (if back then 92 ∷ 92 ∷ [] else b ∷ [])) ≡ true
@@ -36,5 +36,5 @@ pub is_data : (text inner : List ℕ) → inner ≡ data_of text → IsData text
 is_data text inner e = (ap (list_all is_plain) e ∙ plain_data text, ap (read_from false) e ∙ again_data text)
 
 -- a page of these parts
-pub is_page : (workbench document front inner : List ℕ) → IsWorkbench workbench front → inner ≡ data_of document → IsPage workbench document (front ++ (inner ++ CLOSING.now))
-is_page workbench document front inner parted told = record { front = front; inner = inner; parted = parted; holds = is_data document inner told; whole = refl }
+pub is_page : (opens : PageView) (workbench document front inner end : List ℕ) → IsWorkbench workbench front → inner ≡ data_of document → end ≡ closing_of opens → IsPage opens workbench document (front ++ (inner ++ end))
+is_page opens workbench document front inner end parted told ends = record { front = front; inner = inner; parted = parted; holds = is_data document inner told; whole = ap (λ (e : List ℕ). front ++ (inner ++ e)) ends }

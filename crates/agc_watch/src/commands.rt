@@ -23,7 +23,7 @@ const STATUSES: &str = "Exit statuses:
 enum ArgumentKind {
     /// An option that takes no value.
     Flag,
-    /// A flag that the help doesn't mention, since it changes nothing here.
+    /// A flag that the help doesn't mention: it changes nothing here, or is an older name.
     Silent,
     /// An option with a value. The help calls the value by this name.
     Option(&'static str),
@@ -61,6 +61,8 @@ const PROGRESS: Argument = (
 /// `progress` for commands that never report any.
 const SILENT: Argument = ("progress", ArgumentKind::Silent, "");
 
+const SCRIPT: Argument = ("script", ArgumentKind::Flag, "Reads a script");
+
 const CSV: Argument = ("csv", ArgumentKind::Flag, "Writes comma-separated values");
 
 const JSONL: Argument = (
@@ -92,7 +94,7 @@ tasks        the tasks that wait, as address+centiseconds
 Example: agc_watch trace --alarms examples/no-vac-area.toml",
     arguments: &[
         FILE,
-        ("script", ArgumentKind::Flag, "Reads a script"),
+        SCRIPT,
         (
             "alarms",
             ArgumentKind::Flag,
@@ -115,7 +117,7 @@ Example: agc_watch trace --alarms examples/no-vac-area.toml",
         ),
         CSV,
         JSONL,
-        ("json", ArgumentKind::Flag, "The same as --jsonl"),
+        ("json", ArgumentKind::Silent, ""),
         WIDTH,
         (
             "perfetto",
@@ -133,6 +135,12 @@ const PAGE: CommandSpec = CommandSpec {
     example: "Example: agc_watch page examples/no-vac-area.toml > run.html",
     arguments: &[
         FILE,
+        SCRIPT,
+        (
+            "view",
+            ArgumentKind::Option("VIEW"),
+            "Opens in this view: chart for the chart alone, to print it",
+        ),
         (
             "workbench",
             ArgumentKind::Option("FILE"),
@@ -147,11 +155,7 @@ const CHECK: CommandSpec = CommandSpec {
     called: "agc_watch check",
     about: "Says what is wrong with an input, and in which line",
     example: "Example: agc_watch check examples/no-vac-area.toml",
-    arguments: &[
-        FILE,
-        ("script", ArgumentKind::Flag, "Reads a script"),
-        SILENT,
-    ],
+    arguments: &[FILE, SCRIPT, SILENT],
 };
 
 const EXPLORE: CommandSpec = CommandSpec {
@@ -223,7 +227,7 @@ idle                the percentage of its ticks at which no job was running
 lost                the seconds that jobs had computed that its end lost
 
 Example: agc_watch peaks examples/no-vac-area.toml",
-    arguments: &[FILE, CSV, JSONL, WIDTH],
+    arguments: &[FILE, SCRIPT, CSV, JSONL, WIDTH],
 };
 
 const JOBS: CommandSpec = CommandSpec {
@@ -242,6 +246,7 @@ missed, first missed          missed deadlines, and the second of the first
 Example: agc_watch jobs examples/landing.toml",
     arguments: &[
         FILE,
+        SCRIPT,
         (
             "eras",
             ArgumentKind::Flag,

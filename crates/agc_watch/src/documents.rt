@@ -1,13 +1,14 @@
-//! The document that a text is; if it is none, its findings.
-use crate::stops::{Stop, stop_with};
+//! The document that a text is, or that a script becomes; if it is none, its findings.
+use crate::stops::{Stop, add, stop_with};
 use agc_check::{
-    CheckedExplored, CheckedScenario, Document, ExploredBench, Finding, NamedText, NoDocument,
-    bench_messages, explored_findings, scenario_findings,
+    CheckedExplored, CheckedScenario, Document, ExploredBench, Findings, NamedText, NoDocument,
+    explored_findings, put_bench_messages, put_script_messages, scenario_findings, script_findings,
 };
 use agc_document::Bench;
 use agc_program::ProgramFault;
 use agc_run::Subject;
 use agc_scenario::{Scenario, is_scenario};
+use agc_text::Buffer;
 use std::alloc::{AllocError, Global};
 
 const RUN_ONCE: &str =
@@ -47,6 +48,23 @@ impl RunnableDocument {
     }
 }
 
+/// The bench whose script an input is, as a document, with the default of each key.
+pub(crate) fn bench_of_script(alloc: Global, input: NamedText<'_>) -> Result<String, Stop> {
+    let findings = script_findings(alloc, input.text)?;
+    if !findings.is_empty() {
+        let mut messages = Buffer::new(alloc)?;
+        put_script_messages(&mut messages, input, findings.as_slice());
+        return Err(Stop::Findings(messages));
+    }
+    let mut bench = String::new(alloc);
+    bench.push_str("script = [\n")?;
+    for line in input.text.split_terminator('\n') {
+        add(&mut bench, &["    \"", line, "\",\n"])?;
+    }
+    bench.push_str("]\n")?;
+    Ok(bench)
+}
+
 /// Says on standard error how a bench of callers that never stop is run, if it is such a bench.
 fn say_run_once(rt: &HostRuntime, input: NamedText<'_>, explored: &ExploredBench) {
     let (file, flags) = (input.before_line, &explored.flags);
@@ -58,9 +76,12 @@ fn say_run_once(rt: &HostRuntime, input: NamedText<'_>, explored: &ExploredBench
 }
 
 /// Stops for these findings of an input.
-fn refusal(alloc: Global, input: NamedText<'_>, found: &[Finding]) -> Stop {
-    match bench_messages(alloc, input.before_line, found) {
-        Ok(messages) => Stop::Findings(messages),
+fn refusal(alloc: Global, input: NamedText<'_>, found: &Findings) -> Stop {
+    match Buffer::new(alloc) {
+        Ok(mut messages) => {
+            put_bench_messages(&mut messages, input.before_line, found);
+            Stop::Findings(messages)
+        }
         Err(_no_memory) => Stop::ProgramFault(ProgramFault::NoMemory),
     }
 }
@@ -70,7 +91,7 @@ fn parse_document<'a>(alloc: Global, input: NamedText<'a>) -> Result<Document<'a
     match Document::parse(alloc, input.text) {
         Ok(document) => Ok(document),
         Err(NoDocument::NoMemory) => Err(Stop::ProgramFault(ProgramFault::NoMemory)),
-        Err(NoDocument::NotToml(found)) => Err(refusal(alloc, input, found.as_slice())),
+        Err(NoDocument::NotToml(found)) => Err(refusal(alloc, input, &found)),
     }
 }
 
@@ -79,7 +100,7 @@ fn parse_document<'a>(alloc: Global, input: NamedText<'a>) -> Result<Document<'a
 pub(crate) fn looked_at(
     alloc: Global,
     document: &Document<'_>,
-) -> Result<Result<RunnableDocument, Vec<Finding>>, AllocError> {
+) -> Result<Result<RunnableDocument, Findings>, AllocError> {
     if is_scenario(document.table()) {
         let CheckedScenario { scenario, findings } = scenario_findings(alloc, document)?;
         Ok(scenario.map(RunnableDocument::Scenario).ok_or(findings))
@@ -100,7 +121,7 @@ pub(crate) fn document_in(
             runnable.say_run_once(rt, input);
             Ok(runnable)
         }
-        Err(found) => Err(refusal(rt.alloc(), input, found.as_slice())),
+        Err(found) => Err(refusal(rt.alloc(), input, &found)),
     }
 }
 
@@ -113,7 +134,7 @@ pub(crate) fn explored_in(alloc: Global, input: NamedText<'_>) -> Result<Explore
     let CheckedExplored { explored, findings } = explored_findings(alloc, &document)?;
     match explored {
         Some(explored) => Ok(explored),
-        None => Err(refusal(alloc, input, findings.as_slice())),
+        None => Err(refusal(alloc, input, &findings)),
     }
 }
 
@@ -129,7 +150,7 @@ fn no_scenario(
     alloc: Global,
     input: NamedText<'_>,
     document: &Document<'_>,
-    found: &[Finding],
+    found: &Findings,
 ) -> Result<Stop, AllocError> {
     let checked = explored_findings(alloc, document)?;
     if checked.explored.is_some() {
@@ -145,6 +166,6 @@ pub(crate) fn scenario_in(alloc: Global, input: NamedText<'_>) -> Result<Scenari
     let CheckedScenario { scenario, findings } = scenario_findings(alloc, &document)?;
     match scenario {
         Some(scenario) => Ok(scenario),
-        None => Err(no_scenario(alloc, input, &document, findings.as_slice())?),
+        None => Err(no_scenario(alloc, input, &document, &findings)?),
     }
 }

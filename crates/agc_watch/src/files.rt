@@ -2,7 +2,7 @@
 use crate::stops::Stop;
 use crate::words::Input;
 use agc_program::ProgramFault;
-use agc_text::{MOST_BYTES, read_all};
+use agc_text::{MOST_BYTES, ReadFault, read_all};
 use std::alloc::Global;
 use std::fmt::Write;
 use std::io::{ErrorKind, Input as Standard, IsTerminal, Read};
@@ -11,12 +11,16 @@ use std::{fs, io};
 /// The bench to play from if no file is named: an empty plan, and room for a million requests.
 const EMPTY: &str = "limit = 1000000\nallowance = 9223372036854775807\n";
 
+/// The bytes of a reader, but at most one more than an input may have.
+fn read_bytes<R: Read + Drop>(alloc: Global, reader: R) -> io::Result<Vec<u8>> {
+    let mut bytes = Vec::new(alloc);
+    reader.take(MOST_BYTES as u64 + 1).read_to_end(&mut bytes)?;
+    Ok(bytes)
+}
+
 /// The bytes of a file, but at most one more than an input may have.
 pub(crate) fn read_file(rt: &HostRuntime, name: &str) -> io::Result<Vec<u8>> {
-    let mut bytes = Vec::new(rt.alloc());
-    let mut file = fs::open(rt, name)?.take(MOST_BYTES as u64 + 1);
-    file.read_to_end(&mut bytes)?;
-    Ok(bytes)
+    read_bytes(rt.alloc(), fs::open(rt, name)?)
 }
 
 /// Stops because a file can't be read or written, in the system's words.
@@ -37,11 +41,30 @@ pub(crate) fn unwritten(alloc: Global, error: &io::Error) -> Stop {
     unread(alloc, "output", error)
 }
 
-/// Reads an input whole.
-fn read_whole<R: Read>(alloc: Global, reader: &mut R) -> Result<String, Stop> {
-    match read_all(alloc, reader) {
-        Ok(text) => Ok(text),
-        Err(fault) => Err(Stop::ProgramFault(ProgramFault::Read(fault))),
+/// Stops because an input of this name is no text that is taken.
+fn refused_text(alloc: Global, name: &str, fault: ReadFault) -> Stop {
+    let mut told = String::new(alloc);
+    let wrote = match fault {
+        ReadFault::TooLong => write!(
+            told,
+            "{name}: too long: at most {MOST_BYTES} bytes are read"
+        ),
+        ReadFault::NotText => write!(told, "{name}: not text: it isn't UTF-8"),
+        fault => return Stop::ProgramFault(ProgramFault::Read(fault)),
+    };
+    match wrote {
+        Ok(()) => Stop::Message(1, told),
+        Err(_no_memory) => Stop::ProgramFault(ProgramFault::NoMemory),
+    }
+}
+
+/// The text of an input of this name, whose bytes were read.
+fn text_in(alloc: Global, name: &str, read: io::Result<Vec<u8>>) -> Result<String, Stop> {
+    match read {
+        Ok(bytes) => read_all(alloc, &mut bytes.as_slice()).map_err(|fault| refused_text(
+            alloc, name, fault,
+        )),
+        Err(error) => Err(unread(alloc, name, &error)),
     }
 }
 
@@ -52,12 +75,9 @@ pub(crate) fn text_of(rt: &HostRuntime, input: Input<'_>) -> Result<String, Stop
             if rt.stdin().is_terminal() {
                 let _ = eprintln!(rt; "agc_watch: reading standard input; end it by Ctrl-D");
             }
-            read_whole(rt.alloc(), &mut rt.reader())
+            text_in(rt.alloc(), "-", read_bytes(rt.alloc(), rt.reader()))
         }
-        Input::File(name) => match read_file(rt, name) {
-            Ok(bytes) => read_whole(rt.alloc(), &mut bytes.as_slice()),
-            Err(error) => Err(unread(rt.alloc(), name, &error)),
-        },
+        Input::File(name) => text_in(rt.alloc(), name, read_file(rt, name)),
         Input::Empty => match String::from_str(rt.alloc(), EMPTY) {
             Ok(text) => Ok(text),
             Err(error) => Err(Stop::from(error)),

@@ -2,7 +2,7 @@
 ghost use Rattle.std.specs.Prelude.{◌≡◌, ◌++◌, ℕ, List, IfOk, IfSome, IfNone};
 ghost use Rattle.agc_text.specs.Writing.{Writes};
 ghost use Rattle.agc_watch.specs.Data.{spelled, data_of};
-ghost use Rattle.agc_watch.specs.Pages.{IsWorkbench, WritesPage};
+ghost use Rattle.agc_watch.specs.Pages.{IsWorkbench, WritesPage, closing_of};
 
 use agc_program::ProgramFault;
 use agc_text::{Output, put};
@@ -13,6 +13,37 @@ use std::io::Write;
 const OPENING: &[u8] = b"<script type=\"text/plain\" id=\"document\">\n";
 
 const CLOSING: &[u8] = b"</script>\n</body>\n</html>\n";
+
+/// The text right after the data, in a page that opens on the chart alone.
+const CHART_CLOSING: &[u8] =
+    b"</script>\n<script type=\"text/plain\" id=\"view\">chart</script>\n</body>\n</html>\n";
+
+/// The view in which a page opens.
+#[derive(Clone, Copy)]
+pub(crate) enum PageView {
+    Whole,
+    /// The chart alone, for printing.
+    Chart,
+}
+
+impl PageView {
+    /// The text right after the document's data.
+    fn closing(self) -> &'static [u8]
+        ensures { result.now ≡ closing_of self }
+    {
+        match self {
+            PageView::Whole => CLOSING,
+            PageView::Chart => CHART_CLOSING,
+        }
+    }
+}
+
+/// A document that a page is made of, and the view in which the page opens.
+#[derive(Clone, Copy)]
+pub(crate) struct PageDocument<'a> {
+    pub(crate) text: &'a str,
+    pub(crate) view: PageView,
+}
 
 /// A byte of a document as data.
 fn add_spelled(told: &mut Vec<u8>, byte: u8) -> Result<(), AllocError>
@@ -68,15 +99,15 @@ fn put_three<W: Write>(front: &[u8], inner: &[u8], end: &[u8], writer: &mut W) -
 pub(crate) fn put_page<W: Write>(
     alloc: Global,
     workbench: &[u8],
-    document: &str,
+    document: PageDocument<'_>,
     writer: &mut W,
 ) -> Result<bool, ProgramFault>
-    ensures { WritesPage (W.contents writer.old) (W.contents writer.new) workbench.now document.now
-        result }
+    ensures { WritesPage document.entry.view (W.contents writer.old) (W.contents writer.new)
+        workbench.now document.entry.text.now result }
 {
-    let inner = data_of(alloc, document)?;
+    let inner = data_of(alloc, document.text)?;
     match front_of(workbench) {
-        Some(front) => match put_three(front, inner.as_slice(), CLOSING, writer) {
+        Some(front) => match put_three(front, inner.as_slice(), document.view.closing(), writer) {
             Ok(()) => Ok(true),
             Err(_failed) => Err(ProgramFault::Output),
         },

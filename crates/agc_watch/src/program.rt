@@ -1,8 +1,9 @@
 //! The program: it reads its words and its input, and does the work.
+use crate::documents::bench_of_script;
 use crate::files::{text_of, unwritten};
 use crate::progress::ProgressReporter;
 use crate::stops::{Stop, exit_early, join_words};
-use crate::words::{Invocation, parse_words};
+use crate::words::{Invocation, Subcommand, parse_words};
 use crate::work::work;
 use agc_check::NamedText;
 use agc_play::PlayOptions;
@@ -104,7 +105,14 @@ fn run_words(rt: &HostRuntime, words: &[String], rules: PlayOptions) -> Result<u
         before_line: before_line.as_str(),
         text: text.as_str(),
     };
-    work_buffered(rt, &asked, rules, input)
+    match asked.subcommand {
+        Subcommand::Show(_) | Subcommand::Page(..) if asked.is_script => {
+            let bench = bench_of_script(rt.alloc(), input)?;
+            let text = bench.as_str();
+            work_buffered(rt, &asked, rules, NamedText { text, ..input })
+        }
+        _ => work_buffered(rt, &asked, rules, input),
+    }
 }
 
 /// Runs the program by the words of the command line.

@@ -29,14 +29,6 @@ impl WorkUnit {
         }
     }
 
-    /// Whether a line of a table is written as each ends.
-    fn writes_table(self) -> bool {
-        match self {
-            WorkUnit::Runs => true,
-            WorkUnit::Requests | WorkUnit::States => false,
-        }
-    }
-
     /// Whether their count is always reported.
     fn is_always_reported(self) -> bool {
         match self {
@@ -60,14 +52,13 @@ pub(crate) struct ProgressReporter<'a> {
 
 impl<'a> ProgressReporter<'a> {
     /// Starts now, and counts these. Progress is reported if it is wanted, if standard error is a
-    /// terminal and no table of runs is written to one, and always for a search for states.
+    /// terminal and standard output, with its table, is none, and always for a search for states.
     pub(crate) fn new(
         rt: &'a HostRuntime,
         work_unit: WorkUnit,
         is_wanted: bool,
     ) -> ProgressReporter<'a> {
-        let is_seen = rt.stderr().is_terminal()
-            && !(work_unit.writes_table() && rt.stdout().is_terminal());
+        let is_seen = rt.stderr().is_terminal() && !rt.stdout().is_terminal();
         let begun = if is_wanted || work_unit.is_always_reported() || is_seen {
             Instant::now(rt).ok()
         } else {

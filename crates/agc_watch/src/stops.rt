@@ -3,10 +3,9 @@ ghost use Rattle.std.specs.Prelude.{◌≡◌};
 ghost use Rattle.agc_watch.specs.declared.stops.Stop.TheVariants as stop;
 ghost use Rattle.agc_program.specs.declared.fault.ProgramFault.TheVariants as fault;
 
-use agc_check::add;
 use agc_program::{Program, ProgramFault, exit_with};
 use agc_session::RunFault;
-use agc_text::MOST_BYTES;
+use agc_text::{Buffer, MOST_BYTES};
 use clap::Error;
 use std::alloc::{AllocError, Global};
 use std::io::ErrorKind;
@@ -29,7 +28,7 @@ pub(crate) const UNDECIDED: u8 = 11;
 pub(crate) enum Stop {
     ProgramFault(ProgramFault),
     /// The input is refused for the findings in these lines.
-    Findings(String),
+    Findings(Buffer),
     /// The reader of standard output has closed it.
     ClosedPipe,
     /// The bench that was written has this many bytes, more than `agc` takes.
@@ -39,6 +38,14 @@ pub(crate) enum Stop {
     Words(Error),
     /// This sentence is the reason, and this is the exit status.
     Message(u8, String),
+}
+
+/// Adds words, one after the other.
+pub(crate) fn add(text: &mut String, words: &[&str]) -> Result<(), AllocError> {
+    for word in words {
+        text.push_str(word)?;
+    }
+    Ok(())
 }
 
 /// These words, joined.
@@ -100,9 +107,14 @@ fn exit_with_message(rt: &HostRuntime, status: u8, told: &str) -> ExitCode {
 }
 
 /// Reports the findings of an input that is refused.
-fn exit_with_findings(rt: &HostRuntime, findings: &str) -> ExitCode {
-    let _ = eprint!(rt; "{findings}");
-    ExitCode::from(1)
+fn exit_with_findings(rt: &HostRuntime, findings: &Buffer) -> ExitCode {
+    match str::from_utf8(findings.as_bytes()) {
+        Ok(text) if findings.end().is_ok() => {
+            let _ = eprint!(rt; "{text}");
+            ExitCode::from(1)
+        }
+        _ => exit_with(rt, PROGRAM, Err(ProgramFault::NoMemory)),
+    }
 }
 
 /// Reports that a bench is too long for `agc`.
@@ -116,7 +128,7 @@ fn exit_too_long(rt: &HostRuntime, bytes: u64) -> ExitCode {
 pub(crate) fn exit_early(rt: &HostRuntime, stop: &Stop) -> ExitCode {
     match stop {
         Stop::ProgramFault(fault) => exit_with(rt, PROGRAM, Err(*fault)),
-        Stop::Findings(findings) => exit_with_findings(rt, findings.as_str()),
+        Stop::Findings(findings) => exit_with_findings(rt, findings),
         Stop::ClosedPipe => ExitCode::from(4),
         Stop::TooLong(bytes) => exit_too_long(rt, *bytes),
         Stop::Words(text) => exit_with_help(rt, text),

@@ -1,9 +1,9 @@
 //! Sweeps: the numbers of a scenario that they change.
 use crate::documents::scenario_in;
 use crate::program::Console;
-use crate::stops::Stop;
+use crate::stops::{Stop, add};
 use crate::words::{SweepOptions, Values, refused_words};
-use agc_check::{NamedText, add};
+use agc_check::NamedText;
 use agc_peaks::{Axis, SweepParameter, find_alarm, run_sweep};
 use agc_scenario::{Scenario, TimedEvent, TimedJob};
 use agc_text::add_word;

@@ -1,5 +1,6 @@
 //! Reading the words of the command line.
 use crate::commands::{named_command, whole_command};
+use crate::page::PageView;
 use crate::progress::WorkUnit;
 use crate::stops::Stop;
 use agc_explore::{CallerRules, ExploreOptions, TickBounds};
@@ -17,8 +18,11 @@ const STATES: u64 = 2_000_000;
 /// From this many columns on, a whole row of a table fits on one line.
 const WIDE: u64 = 120;
 
+/// Why two forms of a trace are wrong.
+const ONE_TRACE: &str = "a trace has one form: --csv, --jsonl or --perfetto";
+
 /// Why two forms of a table are wrong.
-const ONE_FORM: &str = "a table has one form";
+const ONE_FORM: &str = "a table has one form: --csv or --jsonl";
 
 /// The values to try of the number that a key names.
 #[derive(Clone, Copy)]
@@ -55,14 +59,11 @@ pub(crate) enum Show {
 pub(crate) enum Subcommand<'a> {
     /// To show a bench or a scenario.
     Show(Show),
-    /// To write the page of a bench or a scenario, made of the workbench that is named, if one is.
-    Page(Option<&'a str>),
-    /// To report the findings of a bench or a scenario.
+    /// To write the page of a bench or a scenario, which opens in this view, made of the workbench
+    /// that is named, if one is.
+    Page(PageView, Option<&'a str>),
+    /// To report the findings of the input.
     Check,
-    /// To write the trace of a script.
-    TraceScript(TraceOptions),
-    /// To report the findings of a script.
-    CheckScript,
     /// To search all orders of a bench.
     Explore(ExploreOptions),
     /// To play, from a bench on.
@@ -111,6 +112,8 @@ impl<'a> Input<'a> {
 pub(crate) struct Invocation<'a> {
     pub subcommand: Subcommand<'a>,
     pub input: Input<'a>,
+    /// Whether the input is a script.
+    pub is_script: bool,
     /// Whether progress is reported on standard error.
     pub has_progress: bool,
 }
@@ -205,7 +208,7 @@ impl<'a, 'b> Words<'a, 'b> {
     }
 
     /// The alarm that an option names, if it is given.
-    fn alarm(&mut self, option: &str) -> Option<Alarm> {
+    fn alarm(&mut self, option: &str, reason: &'static str) -> Option<Alarm> {
         let text = self.given.get_str(option);
         let alarm = match text {
             Some("1201") => Some(Alarm::A1201),
@@ -214,7 +217,7 @@ impl<'a, 'b> Words<'a, 'b> {
             _ => None,
         };
         let is_right = alarm.is_some() || text.is_none();
-        self.check(is_right, "an alarm is 1201, 1202 or 1203");
+        self.check(is_right, reason);
         alarm
     }
 
@@ -245,19 +248,19 @@ impl<'a, 'b> Words<'a, 'b> {
 
     /// The form of a trace.
     fn trace_form(&mut self) -> TraceFormat {
-        let form = self.form("a trace has one form");
+        let form = self.form(ONE_TRACE);
         if !self.given.get_flag("perfetto") {
             return TraceFormat::Rows(form);
         }
         let is_text = matches!(form, TableForm::Wide | TableForm::Narrow);
-        self.check(is_text, "a trace has one form");
+        self.check(is_text, ONE_TRACE);
         TraceFormat::Chart
     }
 
     /// Reads the words after `trace`.
     fn trace(&mut self) -> Subcommand<'a> {
-        let from = self.hundredths("from", "--from wants a number");
-        let to = self.hundredths("to", "--to wants a number");
+        let from = self.hundredths("from", "--from wants seconds, with at most two decimals");
+        let to = self.hundredths("to", "--to wants seconds, with at most two decimals");
         let is_right = from.unwrap_or(0) <= to.unwrap_or(u64::MAX);
         self.check(is_right, "--from is beyond --to");
         let choice = TraceOptions {
@@ -270,11 +273,19 @@ impl<'a, 'b> Words<'a, 'b> {
         let is_chosen = choice.alarms || choice.brief;
         let is_right = choice.form != TraceFormat::Chart || !is_chosen;
         self.check(is_right, "--perfetto goes without --alarms and --brief");
-        if self.given.get_flag("script") {
-            Subcommand::TraceScript(choice)
-        } else {
-            Subcommand::Show(Show::Trace(choice))
-        }
+        Subcommand::Show(Show::Trace(choice))
+    }
+
+    /// Reads the words after `page`.
+    fn page(&mut self) -> Subcommand<'a> {
+        let view = match self.given.get_str("view") {
+            None => PageView::Whole,
+            named => {
+                self.check(named == Some("chart"), "--view wants chart");
+                PageView::Chart
+            }
+        };
+        Subcommand::Page(view, self.given.get_str("workbench"))
     }
 
     /// A number of requests, if it is given.
@@ -287,8 +298,8 @@ impl<'a, 'b> Words<'a, 'b> {
 
     /// The number of requests between two ticks.
     fn ticks(&mut self) -> TickBounds {
-        let least = self.requests("least", "--least is a number up to 65535");
-        let most = self.requests("most", "--most is a number up to 65535");
+        let least = self.requests("least", "--least wants a number up to 65535");
+        let most = self.requests("most", "--most wants a number up to 65535");
         let least = least.unwrap_or(0);
         let is_right = least <= most.unwrap_or(u16::MAX);
         self.check(is_right, "--least is beyond --most");
@@ -299,11 +310,15 @@ impl<'a, 'b> Words<'a, 'b> {
     fn explore(&mut self) -> ExploreOptions {
         let repeats = self.given.get_flag("repeat");
         let states = self.number("states", "--states wants a number");
-        let (bench, csv) = (self.alarm("bench"), self.given.get_flag("csv"));
+        let bench = self.alarm("bench", "--bench wants 1201, 1202 or 1203");
+        let csv = self.given.get_flag("csv");
         self.check(bench.is_none() || !csv, "--bench and --csv are two outputs");
+        let alarm = self.alarm("alarm", "--alarm wants 1201, 1202 or 1203");
+        let is_one = bench.is_none() || alarm.is_none() || alarm == bench;
+        self.check(is_one, "--alarm and --bench name two alarms");
         ExploreOptions {
             states: states.unwrap_or(STATES),
-            alarm: self.alarm("alarm"),
+            alarm,
             rules: CallerRules::new(self.given.get_flag("through"), repeats, self.ticks()),
             peaks: self.given.get_flag("peaks"),
             bench,
@@ -375,8 +390,7 @@ impl<'a, 'b> Words<'a, 'b> {
     fn subcommand(&mut self, command: &str) -> Subcommand<'a> {
         match command {
             "trace" => self.trace(),
-            "page" => Subcommand::Page(self.given.get_str("workbench")),
-            "check" if self.given.get_flag("script") => Subcommand::CheckScript,
+            "page" => self.page(),
             "check" => Subcommand::Check,
             "explore" => Subcommand::Explore(self.explore()),
             "bench" => Subcommand::Bench,
@@ -422,6 +436,7 @@ fn parse_matches<'a>(
         None => Ok(Invocation {
             subcommand,
             input: input_of(subcommand, words.file),
+            is_script: given.get_flag("script"),
             has_progress: given.get_flag("progress"),
         }),
     }

@@ -2,13 +2,13 @@
 use crate::checking::{check_document, check_script};
 use crate::documents::{bench_in, document_in, explored_in, scenario_in};
 use crate::files::text_of;
-use crate::page::put_page;
+use crate::page::{PageDocument, PageView, put_page};
 use crate::program::Console;
-use crate::stops::{Stop, UNDECIDED, YES, join_words};
+use crate::stops::{Stop, UNDECIDED, YES, join_words, stop_with};
 use crate::sweeping::write_sweep;
 use crate::words::{Input as Source, Invocation, Show, Subcommand};
 use crate::workbench::Workbench;
-use agc_check::{ExploredBench, NamedText, script_findings, script_messages};
+use agc_check::{ExploredBench, NamedText};
 use agc_explore::{ExploreOptions, ReachStatus, explore, with_endless};
 use agc_peaks::{RunSummary, put_differences, scenario_bench, summary_of, write_jobs, write_peaks};
 use agc_play::{PlayFault, PlayOptions, play};
@@ -16,15 +16,16 @@ use agc_program::ProgramFault;
 use agc_run::Subject;
 use agc_scenario::Scenario;
 use agc_table::TableForm;
-use agc_text::{MOST_BYTES, ReadFault, read_script};
-use agc_trace::{TraceOptions, trace, trace_script};
-use std::alloc::{AllocError, Global};
+use agc_text::{MOST_BYTES, ReadFault};
+use agc_trace::trace;
+use std::alloc::Global;
 use std::io::{Input, Write};
 
-/// Writes the page of the bench or the scenario that a text is. The exit status is 0.
+/// Writes the page of the bench or the scenario that a text is, which opens in this view. The exit
+/// status is 0.
 fn write_page(
     console: &mut Console<'_>,
-    named: Option<&str>,
+    (view, named): (PageView, Option<&str>),
     input: NamedText<'_>,
 ) -> Result<u8, Stop> {
     let alloc = console.rt.alloc();
@@ -33,7 +34,10 @@ fn write_page(
     if put_page(
         alloc,
         workbench.text().as_bytes(),
-        input.text,
+        PageDocument {
+            text: input.text,
+            view,
+        },
         &mut console.output,
     )? {
         Ok(0)
@@ -47,14 +51,11 @@ fn show_subject(console: &mut Console<'_>, show: Show, subject: Subject<'_>) -> 
     let alloc = console.rt.alloc();
     let (progress, output) = (&mut console.progress, &mut console.output);
     let shown = match show {
-        Show::Peaks(form) => return Ok(write_peaks(alloc, subject, form, output)?),
-        Show::Jobs(form, eras) => return Ok(write_jobs(alloc, subject, (form, eras), output)?),
-        Show::Trace(choice) => trace(alloc, subject, choice, progress, output),
+        Show::Peaks(form) => write_peaks(alloc, subject, form, output),
+        Show::Jobs(form, eras) => write_jobs(alloc, subject, (form, eras), output),
+        Show::Trace(choice) => trace(alloc, subject, choice, progress, output).map(|_watched| ()),
     };
-    match shown {
-        Ok(_watched) => Ok(()),
-        Err(fault) => Err(Stop::from(fault)),
-    }
+    Ok(shown?)
 }
 
 /// Shows this of the bench or the scenario that a text is. The exit status is 0.
@@ -62,30 +63,6 @@ fn show_document(console: &mut Console<'_>, show: Show, input: NamedText<'_>) ->
     let shown = document_in(console.rt, input)?;
     show_subject(console, show, shown.subject())?;
     Ok(0)
-}
-
-/// Why the trace of an input that is no script isn't written.
-fn no_script(alloc: Global, input: NamedText<'_>) -> Result<Stop, AllocError> {
-    let found = script_findings(alloc, input.text)?;
-    let messages = script_messages(alloc, input.before_line, found.as_slice())?;
-    Ok(Stop::Findings(messages))
-}
-
-/// Writes the trace of a script. The exit status is 0.
-fn trace_requests(
-    console: &mut Console<'_>,
-    choice: TraceOptions,
-    input: NamedText<'_>,
-) -> Result<u8, Stop> {
-    let alloc = console.rt.alloc();
-    let Ok(requests) = read_script(alloc, input.text) else {
-        return Err(no_script(alloc, input)?);
-    };
-    let (progress, output) = (&mut console.progress, &mut console.output);
-    match trace_script(alloc, requests.as_slice(), choice, progress, output) {
-        Ok(_watched) => Ok(0),
-        Err(fault) => Err(Stop::from(fault)),
-    }
 }
 
 /// Says on standard error that no bench is written, if one was asked for.
@@ -133,13 +110,13 @@ fn explore_bench(
     report_orders(console, options, &explored)
 }
 
-/// Why play ended early, as the program's fault.
-fn play_fault(fault: PlayFault) -> ProgramFault {
+/// Why play ended early.
+fn play_stop(alloc: Global, fault: PlayFault) -> Stop {
     match fault {
-        PlayFault::NoMemory => ProgramFault::NoMemory,
-        PlayFault::Input => ProgramFault::Read(ReadFault::Input),
-        PlayFault::TooLong => ProgramFault::Read(ReadFault::TooLong),
-        PlayFault::Output => ProgramFault::Output,
+        PlayFault::NoMemory => Stop::ProgramFault(ProgramFault::NoMemory),
+        PlayFault::Input => stop_with(alloc, 4, &["-: a read failed"]),
+        PlayFault::TooLong => Stop::ProgramFault(ProgramFault::Read(ReadFault::TooLong)),
+        PlayFault::Output => Stop::ProgramFault(ProgramFault::Output),
     }
 }
 
@@ -153,7 +130,7 @@ fn play_bench(
     let bench = bench_in(rt, input)?;
     match play(rt, &bench, rules, &mut rt.reader(), output) {
         Ok(()) => Ok(0),
-        Err(fault) => Err(Stop::ProgramFault(play_fault(fault))),
+        Err(fault) => Err(play_stop(rt.alloc(), fault)),
     }
 }
 
@@ -219,8 +196,8 @@ fn compare_with(
 
 /// Does what is asked for of an input, and returns the exit status. Here stands what each command
 /// takes: a bench or a scenario where it shows or checks a document, a bench where it explores or
-/// plays, a scenario where it writes a bench or a sweep, two documents where it compares, and else
-/// a script.
+/// plays, a scenario where it writes a bench or a sweep, two documents where it compares, and a
+/// script where it checks one. A script that is shown has become a bench before.
 pub(crate) fn work(
     console: &mut Console<'_>,
     asked: &Invocation<'_>,
@@ -229,14 +206,13 @@ pub(crate) fn work(
 ) -> Result<u8, Stop> {
     match asked.subcommand {
         Subcommand::Show(show) => show_document(console, show, input),
-        Subcommand::Page(named) => write_page(console, named, input),
+        Subcommand::Page(view, named) => write_page(console, (view, named), input),
+        Subcommand::Check if asked.is_script => check_script(console, input),
         Subcommand::Check => check_document(console, input),
         Subcommand::Explore(options) => explore_bench(console, options, input),
         Subcommand::Play => play_bench(console, rules, input),
         Subcommand::Bench => write_bench(console, input),
         Subcommand::Sweep(asked) => write_sweep(console, asked, input),
         Subcommand::Compare(second, form) => compare_with(console, (second, form), input),
-        Subcommand::TraceScript(choice) => trace_requests(console, choice, input),
-        Subcommand::CheckScript => check_script(console, input),
     }
 }

@@ -14,8 +14,8 @@ use crate::lines::numbers_of;
 use crate::reply::AgcNumber;
 use crate::steps::AgcStep;
 use crate::times::times_lack;
-use crate::timetable::{AgcCost, AgcEvent, BorrowedTimes, event_after};
-use agc_clock::{Clock, Source, Stolen};
+use crate::timetable::{AgcEvent, AgcTimetable, event_after};
+use agc_clock::{Clock, Source};
 use agc_image::{AgcRequest, blank_image, image_fault, open};
 use agc_word::Erasable;
 
@@ -37,7 +37,7 @@ fn source_of(source: Source) -> u32
 
 /// The next request of a clock, for an open image.
 fn ask_clock(
-    table: &BorrowedTimes<'_>,
+    table: &AgcTimetable<'_>,
     image: &Erasable,
     clock: &mut Clock,
     request: &mut AgcRequest,
@@ -48,7 +48,8 @@ fn ask_clock(
         clock.old clock.new request.old request.new result.number }
     ensures code { result.code ≡ 0 }
 {
-    match clock.next(image, table) {
+    let (asked, _elapsed) = clock.next(image, table);
+    match asked {
         None => AgcNumber { code: 0, number: 0 },
         Some(asked) => {
             *request = numbers_of(&asked.request);
@@ -68,18 +69,16 @@ fn ask_clock(
 pub extern "C" fn agc_clock_next(
     words: &[u16; 144],
     sets: u32,
-    lasts: u32,
-    stolen: &[Stolen],
-    costs: &[AgcCost],
-    events: &[AgcEvent],
-    requests: &[AgcRequest],
+    table: &AgcTimetable<'_>,
     clock: &mut Clock,
     request: &mut AgcRequest,
 ) -> AgcNumber
     ensures code { ImageThen result.code sets words.now
-        (code_for (times_lack stolen.now costs.now events.now requests.now)) }
+        (code_for (times_lack table.now.stolen.now table.now.costs.now table.now.events.now
+        table.now.requests.now)) }
     ensures served { result.code ≡ 0 → ClockAsks
-        (timetable_from_c lasts stolen.now costs.now events.now requests.now)
+        (timetable_from_c table.now.lasts table.now.stolen.now table.now.costs.now
+        table.now.events.now table.now.requests.now)
         (jobs_in (image_of sets words.now)) clock.old clock.new request.old request.new
         result.number }
     ensures with_fault { ¬ (result.code ≡ 0) → (clock.new ≡ clock.old)
@@ -87,11 +86,9 @@ pub extern "C" fn agc_clock_next(
 {
     match image_fault(words, sets) {
         Some(fault) => AgcNumber::with_fault(fault),
-        None => match times_lack(stolen, costs, events, requests) {
+        None => match times_lack(table.stolen, table.costs, table.events, table.requests) {
             Some(fault) => AgcNumber::with_fault(fault),
-            None => agc_clock_next_trusted(
-                words, sets, lasts, stolen, costs, events, requests, clock, request,
-            ),
+            None => agc_clock_next_trusted(words, sets, table, clock, request),
         },
     }
 }
@@ -103,31 +100,21 @@ pub extern "C" fn agc_clock_next(
 pub extern "C" fn agc_clock_next_trusted(
     words: &[u16; 144],
     sets: u32,
-    lasts: u32,
-    stolen: &[Stolen],
-    costs: &[AgcCost],
-    events: &[AgcEvent],
-    requests: &[AgcRequest],
+    table: &AgcTimetable<'_>,
     clock: &mut Clock,
     request: &mut AgcRequest,
 ) -> AgcNumber
     requires { IsImage sets words.now }
     ensures code { result.code ≡ 0 }
     ensures served { ClockAsks
-        (timetable_from_c lasts stolen.now costs.now events.now requests.now)
+        (timetable_from_c table.now.lasts table.now.stolen.now table.now.costs.now
+        table.now.events.now table.now.requests.now)
         (jobs_in (image_of sets words.now)) clock.old clock.new request.old request.new
         result.number }
 {
     let mut image = blank_image(sets);
     open(words, sets, &mut image);
-    let table = BorrowedTimes {
-        lasts,
-        stolen,
-        costs,
-        events,
-        requests,
-    };
-    ask_clock(&table, &image, clock, request)
+    ask_clock(table, &image, clock, request)
 }
 
 /// Whether an era began with a step.

@@ -14,11 +14,12 @@ ghost use Rattle.libagc.specs.Stepping.{request_code};
 ghost use Rattle.libagc.specs.Stepping.{Lacks, plan_for};
 ghost use Rattle.libagc.specs.Stepping.{step_to_c, step_refusal, action_to_c};
 
+use crate::plans::AgcPlan;
 use crate::ready::time_fault;
 use crate::reply::alarm_code;
 use agc_image::{
-    AgcPhaseEntry, AgcRequest, AgcRow, BorrowedPlan, Fault, blank_image, open, plan_lacks,
-    request_fault, request_of, try_open, write_back,
+    AgcRequest, BorrowedPlan, Fault, blank_image, open, plan_lacks, request_fault, request_of,
+    try_open, write_back,
 };
 use agc_machine::{act_words, finish_words};
 use agc_plan::{Fired, Reply, Request};
@@ -145,7 +146,7 @@ fn finish(plan: &BorrowedPlan<'_>, reply: &Reply, image: &mut Erasable, words: &
 #[inline(always)]
 fn serve(
     words: &mut [u16; 144],
-    plan: &BorrowedPlan<'_>,
+    plan: &AgcPlan<'_>,
     request: &Request,
     image: &mut Erasable,
     fired: &mut [AgcFired; 9],
@@ -157,11 +158,15 @@ fn serve(
         moment.new fired.old fired.new result }
     ensures code { result.code ≡ 0 }
 {
+    let plan = BorrowedPlan {
+        rows: plan.rows,
+        entries: plan.entries,
+    };
     let mut list = Fired::new();
-    let (reply, action) = act_words(plan, image, request, &mut list);
+    let (reply, action) = act_words(&plan, image, request, &mut list);
     write_back(image, words);
     *moment = *words;
-    finish(plan, &reply, image, words);
+    finish(&plan, &reply, image, words);
     hand_out(&list, fired);
     AgcStep::of(&reply, list.len() as u32, action_to_c(action))
 }
@@ -177,13 +182,13 @@ fn refuse(words: &[u16; 144], moment: &mut [u16; 144], fault: Fault) -> AgcStep
 
 /// The fault of a step beyond those of image and request: the time for the step, tidy words, the
 /// plan.
-fn lacks(image: &Erasable, rows: &[AgcRow], entries: &[AgcPhaseEntry]) -> Option<Fault>
+fn lacks(image: &Erasable, plan: &AgcPlan<'_>) -> Option<Fault>
     requires { IsLawful image.now }
-    ensures { Lacks (code_for result) image.now rows.now entries.now }
+    ensures { Lacks (code_for result) image.now plan.now.rows.now plan.now.entries.now }
 {
     match time_fault(image) {
         Some(fault) => Some(fault),
-        None => plan_lacks(rows, entries),
+        None => plan_lacks(plan.rows, plan.entries),
     }
 }
 
@@ -197,16 +202,15 @@ fn lacks(image: &Erasable, rows: &[AgcRow], entries: &[AgcPhaseEntry]) -> Option
 pub extern "C" fn agc_step(
     words: &mut [u16; 144],
     sets: u32,
-    rows: &[AgcRow],
-    entries: &[AgcPhaseEntry],
+    plan: &AgcPlan<'_>,
     request: &AgcRequest,
     fired: &mut [AgcFired; 9],
     moment: &mut [u16; 144],
 ) -> AgcStep
     ensures code { StepCoded result.code sets words.old request.now
-        (code_for (lacking rows.now entries.now)) }
-    ensures served { result.code ≡ 0 → Serves rows.now entries.now request.now sets words.old
-        words.new moment.new fired.old fired.new result }
+        (code_for (lacking plan.now.rows.now plan.now.entries.now)) }
+    ensures served { result.code ≡ 0 → Serves plan.now.rows.now plan.now.entries.now
+        request.now sets words.old words.new moment.new fired.old fired.new result }
     ensures with_fault { ¬ (result.code ≡ 0)
         → Refuses words.old words.new moment.new fired.old fired.new result }
 {
@@ -218,12 +222,9 @@ pub extern "C" fn agc_step(
                 Some(fault) => refuse(words, moment, fault),
                 None => match request_of(request) {
                     None => refuse(words, moment, request_fault(request)),
-                    Some(asked) => match lacks(&image, rows, entries) {
+                    Some(asked) => match lacks(&image, plan) {
                         Some(fault) => refuse(words, moment, fault),
-                        None => {
-                            let plan = BorrowedPlan { rows, entries };
-                            serve(words, &plan, &asked, &mut image, fired, moment)
-                        }
+                        None => serve(words, plan, &asked, &mut image, fired, moment),
                     },
                 },
             }
@@ -238,8 +239,7 @@ pub extern "C" fn agc_step(
 pub extern "C" fn agc_step_trusted(
     words: &mut [u16; 144],
     sets: u32,
-    rows: &[AgcRow],
-    entries: &[AgcPhaseEntry],
+    plan: &AgcPlan<'_>,
     request: &AgcRequest,
     fired: &mut [AgcFired; 9],
     moment: &mut [u16; 144],
@@ -247,8 +247,8 @@ pub extern "C" fn agc_step_trusted(
     requires image { IsImage sets words.old }
     requires ready { IsReady (image_of sets words.old) }
     ensures code { result.code ≡ request_code request.now }
-    ensures served { result.code ≡ 0 → Serves rows.now entries.now request.now sets words.old
-        words.new moment.new fired.old fired.new result }
+    ensures served { result.code ≡ 0 → Serves plan.now.rows.now plan.now.entries.now
+        request.now sets words.old words.new moment.new fired.old fired.new result }
     ensures with_fault { ¬ (result.code ≡ 0)
         → Refuses words.old words.new moment.new fired.old fired.new result }
 {
@@ -257,8 +257,7 @@ pub extern "C" fn agc_step_trusted(
         Some(asked) => {
             let mut image = blank_image(sets);
             open(words, sets, &mut image);
-            let plan = BorrowedPlan { rows, entries };
-            serve(words, &plan, &asked, &mut image, fired, moment)
+            serve(words, plan, &asked, &mut image, fired, moment)
         }
     }
 }

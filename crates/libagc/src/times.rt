@@ -6,7 +6,7 @@ ghost use Rattle.libagc.specs.LateTimes.{is_event};
 ghost use Rattle.libagc.specs.LateTimes.{are_steals, are_costs, are_events, are_requests};
 ghost use Rattle.libagc.specs.LateTimes.{meets, steals_twice, has_cost, costs_twice, times_lack};
 
-use crate::timetable::{AgcCost, AgcEvent, requests_from};
+use crate::timetable::{AgcCost, AgcEvent, AgcTimetable, requests_from};
 use agc_clock::{LAST_TIME, Stolen, step_of};
 use agc_image::{AgcRequest, Fault, address, request_of};
 
@@ -199,15 +199,11 @@ pub(crate) fn times_lack(
 /// Whether rows make a timetable: 0, or the first of 15, a number of them is out of its range, 16,
 /// two rows of stolen time that come only once hold at one time, and 17, an address has two costs.
 #[unsafe(no_mangle)]
-pub extern "C" fn agc_clock_check(
-    stolen: &[Stolen],
-    costs: &[AgcCost],
-    events: &[AgcEvent],
-    requests: &[AgcRequest],
-) -> u32
-    ensures { result ≡ code_for (times_lack stolen.now costs.now events.now requests.now) }
+pub extern "C" fn agc_clock_check(table: &AgcTimetable<'_>) -> u32
+    ensures { result ≡ code_for (times_lack table.now.stolen.now table.now.costs.now
+        table.now.events.now table.now.requests.now) }
 {
-    match times_lack(stolen, costs, events, requests) {
+    match times_lack(table.stolen, table.costs, table.events, table.requests) {
         None => 0,
         Some(fault) => fault.code(),
     }

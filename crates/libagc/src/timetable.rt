@@ -50,19 +50,21 @@ pub struct AgcEvent {
 }
 
 /// A timetable whose rows lie in memory of a caller's own: an address out of its range counts as
-/// 16383, numbers that are no request as a change of job, which is no step of a job.
+/// 16383, numbers that are no request as a change of job, which is no step of a job. For C each
+/// list is a pointer and then a length.
+#[repr(C)]
 #[derive(Clone, Copy)]
-pub(crate) struct BorrowedTimes<'a> {
+pub struct AgcTimetable<'a> {
     /// How many centiseconds it lasts.
-    pub(crate) lasts: u32,
+    pub lasts: u32,
     /// Stolen time.
-    pub(crate) stolen: &'a [Stolen],
+    pub stolen: &'a [Stolen],
     /// The costs of jobs.
-    pub(crate) costs: &'a [AgcCost],
+    pub costs: &'a [AgcCost],
     /// The events.
-    pub(crate) events: &'a [AgcEvent],
+    pub events: &'a [AgcEvent],
     /// The requests of events and jobs.
-    pub(crate) requests: &'a [AgcRequest],
+    pub requests: &'a [AgcRequest],
 }
 
 /// The last address.
@@ -203,7 +205,7 @@ fn cost_of(requests: &[AgcRequest], row: &AgcCost) -> Cost
     }
 }
 
-impl<'a> Timetables for BorrowedTimes<'a> {
+impl<'a> Timetables for AgcTimetable<'a> {
     ghost set_down = { λ t. timetable_from_c t.lasts t.stolen.now t.costs.now t.events.now
         t.requests.now };
 

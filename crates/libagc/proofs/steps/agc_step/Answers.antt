@@ -37,16 +37,16 @@ returns-in-Some-lacks-clause-code c =
     let image = image_for _ c.args.sets c.try_open.result c.args.words.now c.in-Some.ensures.value c.in-None-try_open.is c.try_open.ensures.code in
     let opened : IsOpened c.args.sets c.args.words.now c.try_open.new.image = subst (λ (n : ℕ). IsOpened n c.args.words.now c.try_open.new.image) c.in-Some.ensures.value c.in-None-try_open.ensures.opened in
     let code : code_for c.lacks.result ≡ c.refuse-in-Some-lacks.result.code = ap code_for c.in-Some-lacks.is ∙ sym (ap (λ (r : AgcStep). r.code) c.refuse-in-Some-lacks.ensures.result) in
-    step_lacks c.refuse-in-Some-lacks.result.code c.args.sets c.args.words.now c.try_open.new.image c.args.request.now c.in-Some-request_of.asked c.args.rows.now c.args.entries.now image (sym c.request_of.ensures ∙ c.in-Some-request_of.is) opened.image
-    (subst (λ (n : ℕ). Lacks n c.try_open.new.image c.args.rows.now c.args.entries.now) code c.lacks.ensures)
+    step_lacks c.refuse-in-Some-lacks.result.code c.args.sets c.args.words.now c.try_open.new.image c.args.request.now c.in-Some-request_of.asked c.args.plan.now.rows.now c.args.plan.now.entries.now image (sym c.request_of.ensures ∙ c.in-Some-request_of.is) opened.image
+    (subst (λ (n : ℕ). Lacks n c.try_open.new.image c.args.plan.now.rows.now c.args.plan.now.entries.now) code c.lacks.ensures)
 
 pub returns-in-None-lacks-clause-code : goal.returns-in-None-lacks-clause-code
 returns-in-None-lacks-clause-code c =
     let image = image_for _ c.args.sets c.try_open.result c.args.words.now c.in-Some.ensures.value c.in-None-try_open.is c.try_open.ensures.code in
     let opened : IsOpened c.args.sets c.args.words.now c.try_open.new.image = subst (λ (n : ℕ). IsOpened n c.args.words.now c.try_open.new.image) c.in-Some.ensures.value c.in-None-try_open.ensures.opened in
     let code : code_for c.lacks.result ≡ c.serve.result.code = ap code_for c.in-None-lacks.is ∙ sym c.serve.ensures.code in
-    step_lacks c.serve.result.code c.args.sets c.args.words.now c.try_open.new.image c.args.request.now c.in-Some-request_of.asked c.args.rows.now c.args.entries.now image (sym c.request_of.ensures ∙ c.in-Some-request_of.is) opened.image
-    (subst (λ (n : ℕ). Lacks n c.try_open.new.image c.args.rows.now c.args.entries.now) code c.lacks.ensures)
+    step_lacks c.serve.result.code c.args.sets c.args.words.now c.try_open.new.image c.args.request.now c.in-Some-request_of.asked c.args.plan.now.rows.now c.args.plan.now.entries.now image (sym c.request_of.ensures ∙ c.in-Some-request_of.is) opened.image
+    (subst (λ (n : ℕ). Lacks n c.try_open.new.image c.args.plan.now.rows.now c.args.plan.now.entries.now) code c.lacks.ensures)
 
 pub returns-in-None-lacks-clause-served : goal.returns-in-None-lacks-clause-served
 returns-in-None-lacks-clause-served c = λ zero.

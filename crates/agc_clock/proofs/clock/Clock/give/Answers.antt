@@ -5,7 +5,6 @@ use Rattle.agc_clock.specs.Clocks.{AsksNext, Clocked}
 use Rattle.agc_clock.specs.Counts.{begun, counted_on, given_to, with_given}
 use Rattle.agc_clock.specs.Instants.{by_clock}
 use Rattle.agc_clock.specs.Timetables.{asked_of, needs, step_at}
-use Rattle.agc_clock.specs.Reading.{Passes}
 use Rattle.agc_clock.proofs.Working.{IsMore, IsRest, IsWorked, give_ends, give_passes, its_count, its_request, more_is, rest_is}
 use Rattle.agc_clock.proofs.clock.Clock.give.Goals as goal
 

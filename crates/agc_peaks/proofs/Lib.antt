@@ -1,0 +1,4 @@
+mod Eras
+mod Lives
+mod Occupancies
+mod Runs

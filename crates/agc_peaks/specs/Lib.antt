@@ -1,0 +1,6 @@
+pub mod Boundaries
+pub mod Eras
+pub mod Lives
+pub mod Occupancies
+pub mod Runs
+pub mod Steps

@@ -1,0 +1,85 @@
+//! The table of a run's eras.
+use crate::era::{Boundary, EraStatistics, Peak};
+use crate::jobs_rows::seconds;
+use agc_table::{Column, Row, Table, left, right};
+use agc_text::Field::{Number, Seconds, Text};
+use agc_text::alarm_code;
+
+/// An era, as a row of a table: its number, why it began, when and why it ended, and its
+/// statistics.
+#[derive(Clone, Copy)]
+pub(crate) struct EraRow {
+    pub(crate) number: u64,
+    pub(crate) by: Boundary,
+    pub(crate) ended: u64,
+    pub(crate) end: Boundary,
+    pub(crate) statistics: EraStatistics,
+}
+
+/// The reason why an era begins.
+fn begin_text(boundary: Boundary) -> &'static str {
+    match boundary {
+        Boundary::Start => "start",
+        Boundary::Alarm(alarm) => alarm_code(alarm),
+        Boundary::Restart | Boundary::FreshStart => "restart",
+        Boundary::End => "the end",
+    }
+}
+
+/// The reason why an era ends.
+fn end_text(boundary: Boundary) -> &'static str {
+    match boundary {
+        Boundary::FreshStart => "fresh start",
+        other => begin_text(other),
+    }
+}
+
+/// Adds a peak and since when it was there to a row.
+fn fill_peak(peak: Peak, row: &mut Row, count: Column<'_>, since: Column<'_>) {
+    row.cell(count, Number(peak.count));
+    row.cell(since, Seconds(peak.since));
+}
+
+impl EraRow {
+    /// How many centiseconds it lasts.
+    fn lasts(&self) -> u64 {
+        self.ended.saturating_sub(self.statistics.began)
+    }
+
+    /// The percentage of its ticks at which no job was running.
+    fn idle_percent(&self) -> u64 {
+        self.statistics.idle.saturating_mul(100) / self.lasts().max(1)
+    }
+
+    /// Adds the cells of its row to a table, with the computing that was lost as it ended, in
+    /// hundredths of a centisecond: that, and the percentage of ticks at which no job was running,
+    /// are known only if time passes by itself, and are in each table for other programs.
+    pub(crate) fn fill(&self, lost: u64, has_time: bool, table: &mut Table) {
+        let era = &self.statistics;
+        let is_text = table.is_text();
+        let row = &mut table.row;
+        row.cell(right("era", "era", 4), Number(self.number));
+        row.cell(right("begins", "begins", 8), Seconds(era.began));
+        row.cell(left("by", "by", 7), Text(begin_text(self.by)));
+        row.cell(right("lasts", "lasts", 8), Seconds(self.lasts()));
+        row.cell(right("requests", "requests", 8), Number(era.requests));
+        row.cell(right("begun", "begun", 5), Number(era.jobs_begun));
+        row.cell(right("ended", "ended", 5), Number(era.jobs_ended));
+        row.below();
+        let (count, since) = (right("sets", "sets", 5), right("since", "sets_since", 7));
+        fill_peak(era.sets, row, count, since);
+        let (count, since) = (right("areas", "areas", 5), right("since", "areas_since", 7));
+        fill_peak(era.areas, row, count, since);
+        let (count, since) = (right("tasks", "tasks", 5), right("since", "tasks_since", 7));
+        fill_peak(era.tasks, row, count, since);
+        let (idle, lost_column) = (right("idle", "idle", 4), right("lost", "lost", 6));
+        if has_time {
+            row.percent(idle, self.idle_percent());
+            row.cell(lost_column, seconds(lost));
+        } else if !is_text {
+            row.option(idle, None);
+            row.option(lost_column, None);
+        }
+        row.cell(left("ended by", "ended_by", 0), Text(end_text(self.end)));
+    }
+}

@@ -1,0 +1,76 @@
+// Of random scenarios the strip of a slider has the first alarms that `agc_watch sweep` has, and the table of jobs what `agc_watch jobs`
+// has. AGREEMENTS in the environment says how many scenarios there are.
+import assert from "node:assert/strict";
+import { test } from "node:test";
+import { Lacking, start } from "../../libagc/js/machine.js";
+import { readBench } from "../../web/bench.js";
+import { runOf } from "../../web/clock.js";
+import { jobsOf } from "../../web/jobs.js";
+import { moduleBytes } from "../../web/picture.mjs";
+import { firstAlarm } from "../../web/sweep.js";
+import { Unread } from "../../web/toml.js";
+import { octal } from "../../web/words.js";
+import { WATCH, each, python, skip } from "./programs.mjs";
+
+await start(await moduleBytes());
+
+const COUNT = Number(process.env.AGREEMENTS ?? 60);
+const MAKE = `import sys, json
+sys.path.insert(0, "tools")
+from plain.make import Dice, scenario, toml
+print(json.dumps([toml(scenario(Dice(k))) for k in range(${COUNT})]))`;
+
+/** The columns of `agc_watch jobs` that the page's table has. */
+const COLUMNS = ["began", "ended", "lost", "alive", "least", "mean", "most", "share", "missed", "first_missed"];
+
+/** How far a quotient may lie below what it is exactly. */
+const EXACT = 1e-9;
+
+/** The first alarms of a scenario. @param {import("../../web/bench.js").Bench} bench */
+function sweptBy(bench) {
+  return [7, 8].flatMap((sets) => [0, 30, 60, 90].map((steal) => {
+    const steps = firstAlarm({ ...bench, steal, sets });
+    for (;;) {
+      const { done, value } = steps.next();
+      if (done) return [sets, steal, ...(value === null ? ["", ""] : [octal(value.code, 4), (value.time / 100).toFixed(2)])].join(",");
+    }
+  }));
+}
+
+/** A row of the table of jobs, as those columns. @param {import("../../web/jobs.js").JobRow} row */
+function cellsOf({ began, ended, lost, alive, least, mean, most, share, deadline, missed, firstMissed }) {
+  const seconds = (/** @type {number} */ hundredths) => (Math.floor((hundredths + 50) / 100) / 100).toFixed(2);
+  return [began, ended, lost, alive, seconds(least), seconds(mean), seconds(most), (Math.floor(1000 * share + 0.5 + EXACT) / 10).toFixed(1),
+    deadline === null ? "" : missed, firstMissed === null ? "" : seconds(firstMissed)].join(",");
+}
+
+/** What the page has of a document; null where it isn't one. @param {string} text */
+function computed(text) {
+  try {
+    const bench = readBench(text);
+    const run = runOf(bench, [], {}, Infinity);
+    return { swept: sweptBy(bench), jobs: jobsOf(run, run.count).map(cellsOf) };
+  } catch (fault) {
+    if (fault instanceof Lacking || fault instanceof Unread) return null;
+    throw fault;
+  }
+}
+
+test("the page computes what agc_watch does", { skip }, async () => {
+  const texts = python(["-c", MAKE]);
+  const sweeps = await each(WATCH, ["sweep", "sets", "7", "8", "--and", "steal:0:90:30", "--csv"], texts);
+  const jobs = await each(WATCH, ["jobs", "--csv"], texts);
+  let alarms = 0;
+  for (const [k, text] of texts.entries()) {
+    const found = computed(text);
+    assert.equal(found === null, sweeps[k].status !== 0, text);
+    if (found === null) continue;
+    const [, ...swept] = sweeps[k].text.trim().split("\n").map((it) => it.split(",").slice(0, 4).join());
+    // (names have no commas that matter here: they come first)
+    const [head, ...rows] = jobs[k].text.trim().split("\n").map((it) => it.replace(/^"[^"]*"/, "").split(","));
+    const wanted = rows.map((row) => COLUMNS.map((it) => row[head.indexOf(it)]).join());
+    assert.deepEqual(found, { swept, jobs: wanted }, text);
+    alarms += swept.filter((it) => !it.endsWith(",")).length;
+  }
+  assert.ok(alarms > COUNT, `only ${alarms} alarms`);
+});
