@@ -29,8 +29,8 @@ impl WorkUnit {
         }
     }
 
-    /// Whether their count is always reported.
-    fn is_always_reported(self) -> bool {
+    /// Whether all that is written comes after the work, so that a report can't stand within it.
+    fn ends_before_output(self) -> bool {
         match self {
             WorkUnit::States => true,
             WorkUnit::Requests | WorkUnit::Runs => false,
@@ -51,15 +51,15 @@ pub(crate) struct ProgressReporter<'a> {
 }
 
 impl<'a> ProgressReporter<'a> {
-    /// Starts now, and counts these. Progress is reported if it is wanted, if standard error is a
-    /// terminal and standard output, with its table, is none, and always for a search for states.
+    /// Starts now, and counts these. Progress is reported if it is wanted, and if standard error is a
+    /// terminal where no report can stand within a table.
     pub(crate) fn new(
         rt: &'a HostRuntime,
         work_unit: WorkUnit,
         is_wanted: bool,
     ) -> ProgressReporter<'a> {
-        let is_seen = rt.stderr().is_terminal() && !rt.stdout().is_terminal();
-        let begun = if is_wanted || work_unit.is_always_reported() || is_seen {
+        let is_apart = work_unit.ends_before_output() || !rt.stdout().is_terminal();
+        let begun = if is_wanted || (rt.stderr().is_terminal() && is_apart) {
             Instant::now(rt).ok()
         } else {
             None
