@@ -71,7 +71,7 @@ class Keeping(unittest.TestCase):
     def test_time_goes_on(self):
         """A run of less than nothing is refused at once, and nothing passes; of nothing it is no run."""
         machine, clock = Machine(), Clock()
-        self.assertEqual(self.raised(AgcError, lambda: machine.run(clock, -1)), "time can't go back, by -1 centiseconds")
+        self.assertEqual(self.raised(AgcError, lambda: machine.run(clock, -1)), "centiseconds is -1, and may be 0 to 4294967295")
         self.raised(TypeError, lambda: machine.run(clock, 2.5))
         self.assertTrue([*machine.run(clock, 0)] == [] and clock.time == 0 and machine.totals.served == 0)
         self.assertTrue(len([*machine.run(clock, 3)]) == 3 and clock.time == 3)
@@ -79,9 +79,10 @@ class Keeping(unittest.TestCase):
     def test_a_day_is_the_longest(self):
         """Events come up to a day, so that a timetable that lasts longer would lose them."""
         self.assertTrue(Clock({"seconds": 86400}).lasts == 8640000 and Clock({"seconds": 0.29}).lasts == 29)
-        told = "a timetable lasts at most 86400 seconds, and this 86401"
+        told = "a timetable: seconds is 86401, and may be 0 to 86400"
         self.assertEqual(self.raised(AgcError, lambda: Clock({"seconds": 86401})), told)
-        self.assertEqual(self.raised(AgcError, lambda: Clock({"seconds": 0.125})), "seconds has to be whole centiseconds, and is 0.125")
+        self.assertEqual(self.raised(AgcError, lambda: Clock({"seconds": 0.125})), "a timetable: seconds has to be whole centiseconds, and is 0.125")
+        self.assertEqual(self.raised(AgcError, lambda: Clock({"seconds": float("nan")})), "a timetable: seconds is nan, and may be 0 to 86400")
         late = {"event": [{"at": 0, "do": "tick"}, {"at": 8640001, "do": "tick"}]}
         self.assertEqual(self.raised(AgcError, lambda: Clock(late)), "event 2: at is 8640001, and may be 0 to 8640000")
 
@@ -102,27 +103,27 @@ class Keeping(unittest.TestCase):
             ((2**64 - 2, 2**64 - 1, 999_999, 1_000_000), ("novac 20 02000 00005",)),
             ((9, 10, 5, 5), ("restart", "fresh")),
         ]:
-            self.assertEqual([agc.refusal(it, agc.Bounds(*counts)) for it in lines], [Code.OK] * len(lines), counts)
+            self.assertEqual([agc.refusal_of(it, agc.Bounds(*counts)) for it in lines], [Code.OK] * len(lines), counts)
         for counts, code in [((9, 10, 5, 5), Code.LOG_FULL), ((10, 10, 5, 5), Code.SPENT), ((0, 0, 0, 1), Code.SPENT), ((11, 10, 0, 5), Code.SPENT)]:
-            self.assertIs(agc.refusal("tick", agc.Bounds(*counts)), code, counts)
-        self.assertIs(agc.refusal("fresh", agc.Bounds(10, 10, 0, 5)), Code.SPENT)
-        told = self.raised(AgcError, lambda: agc.refusal("tock", agc.Bounds(0, 1, 0, 1)))
+            self.assertIs(agc.refusal_of("tick", agc.Bounds(*counts)), code, counts)
+        self.assertIs(agc.refusal_of("fresh", agc.Bounds(10, 10, 0, 5)), Code.SPENT)
+        told = self.raised(AgcError, lambda: agc.refusal_of("tock", agc.Bounds(0, 1, 0, 1)))
         self.assertEqual(told, "'tock': its first word is unknown; did you mean \"tick\"?")
-        self.assertEqual(self.raised(AgcError, lambda: agc.refusal("tick", agc.Bounds(0, 2**64, 0, 1))), "allowance can't be 18446744073709551616")
-        self.assertEqual(self.raised(AgcError, lambda: agc.refusal("tick", agc.Bounds(0, 1, -1, 1))), "logged can't be -1")
-        self.raised(TypeError, lambda: agc.refusal("tick", (0, 1, 0, 1)))
+        self.assertEqual(self.raised(AgcError, lambda: agc.refusal_of("tick", agc.Bounds(0, 2**64, 0, 1))), "bounds: allowance is 18446744073709551616, and may be 0 to 18446744073709551615")
+        self.assertEqual(self.raised(AgcError, lambda: agc.refusal_of("tick", agc.Bounds(0, 1, -1, 1))), "bounds: logged is -1, and may be 0 to 4294967295")
+        self.raised(TypeError, lambda: agc.refusal_of("tick", (0, 1, 0, 1)))
 
     def test_pulses_ask(self):
         """A timer's pulse for a tick, the others' for what the plan has done."""
         keys = ["nothing", "novac 20 02000 00005", "rouse 02100", "nothing"]
-        self.assertTrue(agc.pulse("timer") == ["tick"] and agc.pulse("timer", keys, keys) == ["tick"])
-        self.assertTrue(agc.pulse("key", keys) == ["novac 20 02000 00005", "rouse 02100"] and agc.pulse("radar", keys) == [])
-        self.assertEqual(agc.pulse("radar", radar="list 16250 37777 77777"), ["list 16250 37777 77777"])
-        self.assertEqual(agc.pulse("key", ["findvac 01 00001 00000"] * 4), ["findvac 01 00001 00000"] * 4)
-        self.assertEqual(self.raised(AgcError, lambda: agc.pulse("key", ["nothing"] * 5)), "a pulse: key has to have 1 to 4 lines, and has 5")
-        self.assertEqual(self.raised(AgcError, lambda: agc.pulse("bell")), "a line is timer, key or radar, and not 'bell'")
-        told = self.raised(AgcError, lambda: agc.pulse("key", "tick"))
-        self.assertEqual(told, "key, action 1: 'tick': an action is nothing, or begins with novac, findvac, rouse or list")
+        self.assertTrue(agc.pulse_of("timer") == ["tick"] and agc.pulse_of("timer", keys, keys) == ["tick"])
+        self.assertTrue(agc.pulse_of("key", keys) == ["novac 20 02000 00005", "rouse 02100"] and agc.pulse_of("radar", keys) == [])
+        self.assertEqual(agc.pulse_of("radar", radar="list 16250 37777 77777"), ["list 16250 37777 77777"])
+        self.assertEqual(agc.pulse_of("key", ["findvac 01 00001 00000"] * 4), ["findvac 01 00001 00000"] * 4)
+        self.assertEqual(self.raised(AgcError, lambda: agc.pulse_of("key", ["nothing"] * 5)), "a pulse: key has to have 1 to 4 lines, and has 5")
+        self.assertEqual(self.raised(AgcError, lambda: agc.pulse_of("bell")), "line is 'bell', and may be timer, key or radar")
+        told = self.raised(AgcError, lambda: agc.pulse_of("key", "tick"))
+        self.assertEqual(told, "a pulse: key 1: 'tick': an action is nothing, or begins with novac, findvac, rouse or list")
 
     def test_keys_are_known(self):
         for call, told in [
@@ -131,16 +132,16 @@ class Keeping(unittest.TestCase):
             (lambda: Clock({"job": [{"at": "04000"}]}), "job 1 has to have 'cost'"),
             (lambda: Clock({"event": [{"at": 0, "do": "tick"}, {"do": "tick"}]}), "event 2 has to have 'at'"),
             (lambda: Clock({"steal": [{"from": 0, "to": 9}]}), "steal 1 has to have 'percent'"),
-            (lambda: Clock({"steal": 1.5}), "a number has to be an int, and 1.5 is of type float"),
-            (lambda: Clock({"steal": "15"}), "steal has to be a list of dicts, and '15' is of type str"),
-            (lambda: Clock({"job": [{"at": "04000", "cost": 0.29}]}), "a number has to be an int, and 0.29 is of type float"),
-            (lambda: Clock({"job": {"at": "04000", "cost": 1}}), "job has to be a list of dicts, and {'at': '04000', 'cost': 1} is of type dict"),
+            (lambda: Clock({"steal": 1.5}), "a timetable: steal has to be an int, and 1.5 is of type float"),
+            (lambda: Clock({"steal": "15"}), "a timetable: steal has to be a list of dicts or an int, and '15' is of type str"),
+            (lambda: Clock({"job": [{"at": "04000", "cost": 0.29}]}), "job 1: cost has to be an int, and 0.29 is of type float"),
+            (lambda: Clock({"job": {"at": "04000", "cost": 1}}), "a timetable: job has to be a list of dicts, and {'at': '04000', 'cost': 1} is of type dict"),
             (lambda: Clock([]), "a timetable has to be a dict, and [] is of type list"),
             (lambda: Machine(plan={"tasks": []}), "a plan has no key 'tasks': is it 'task'?"),
-            (lambda: Machine(plan={"task": [{"at": 1, "bank": 5}]}), "task 1 of the plan has to have 'action'"),
-            (lambda: Machine(plan={"task": [{"at": 1, "bank": 5, "action": 7}]}), "task 1 of the plan: action has to be a line or a list of lines, and 7 is of type int"),
-            (lambda: Machine(plan={"phase": [{"group": 1, "phase": 1}, {"group": 1}]}), "phase 2 of the plan has to have 'phase'"),
-            (lambda: Machine(plan={"phase": [5]}), "phase 1 of the plan has to be a dict, and 5 is of type int"),
+            (lambda: Machine(plan={"task": [{"at": 1, "bank": 5}]}), "task 1 has to have 'action'"),
+            (lambda: Machine(plan={"task": [{"at": 1, "bank": 5, "action": 7}]}), "task 1: action has to be a list of lines, and 7 is of type int"),
+            (lambda: Machine(plan={"phase": [{"group": 1, "phase": 1}, {"group": 1}]}), "phase 2 has to have 'phase'"),
+            (lambda: Machine(plan={"phase": [5]}), "phase 1 has to be a dict, and 5 is of type int"),
         ]:
             found = self.raised(TypeError if "of type" in told else ValueError, call)
             self.assertEqual(found, told)
@@ -152,19 +153,22 @@ class Keeping(unittest.TestCase):
         row, entry = {"at": "02000", "bank": "00005", "action": "nothing"}, {"group": 1, "phase": 1}
         others = [{**row, "at": 0o2000 + k} for k in range(1, 40)]
         for call, told in [
-            (lambda: Machine(plan={"task": [{**row, "at": "00000"}, row]}), "task 1 of the plan, at: '00000': an address is five octal digits, 00001 to 37777"),
-            (lambda: Machine(plan={"task": [row, {**row, "bank": 32768}, row]}), "task 2 of the plan, bank: 32768: a word is five octal digits, 00000 to 77777"),
+            (lambda: Machine(plan={"task": [{**row, "at": "00000"}, row]}), "task 1: at: '00000': an address is five octal digits, 00001 to 37777"),
+            (lambda: Machine(plan={"task": [row, {**row, "bank": 32768}, row]}), "task 2: bank: 32768: a word is five octal digits, 00000 to 77777"),
             (lambda: Machine(plan={"task": [row, *others, row, row]}), "task 41: a task has two rows of the plan"),
-            (lambda: Machine(plan={"task": others, "phase": [entry, {**entry, "phase": 128}]}), "phase 2 of the plan: phase is 128, and may be 1 to 127"),
+            (lambda: Machine(plan={"task": others, "phase": [entry, {**entry, "phase": 128}]}), "phase 2: phase is 128, and may be 1 to 127"),
             (lambda: Machine(sets=9), "a machine: sets is 9, and may be 7 to 8"),
-            (lambda: Machine(plan={"task": [{**row, "action": []}]}), "task 1 of the plan: action has to have 1 to 4 lines, and has 0"),
+            (lambda: Machine(plan={"task": [{**row, "action": []}]}), "task 1: action has to have 1 to 4 lines, and has 0"),
             (lambda: Clock({"seed": 0}), "a timetable: seed is 0, and may be 1 to 2147483646"),
-            (lambda: Machine(power=["77777"] * 11), "there have to be 12 words, and these are 11"),
+            (lambda: Machine(power=["77777"] * 11), "a machine: power has to have 12 words, and has 11"),
             (lambda: Clock({"steal": 101}), "a timetable: steal is 101, and may be 0 to 100"),
             (lambda: Clock({"job": [{"at": 1, "cost": {"from": 0, "to": 5}}], "seed": 1}), "job 1: cost: from is 0, and may be 1 to 1000000"),
-            (lambda: Clock.of_state({"timetable": {}, "at": [1]}), "a clock's state has fourteen numbers of 32 bits"),
+            (lambda: Clock.of_state({"timetable": {}, "at": [1]}), "at has to have 14 numbers, and has 1"),
             (lambda: Machine(plan={"phase": [entry, {**entry, "group": 2}, entry]}), "phase 3: a group's phase has two entries of the plan"),
             (lambda: Clock({"job": [{"at": k, "cost": 1} for k in (1, 2, 3, 2, 1)]}), "job 4: one address has two costs"),
+            (lambda: Clock({"steal": [{"from": 0, "to": 9, "percent": 1, "every": 8}]}), "steal 1: every is 8, and has to be as long as the row lasts, 9, or longer"),
+            (lambda: Clock({"job": [{"at": 1, "cost": {"from": 3, "to": 2}}], "seed": 1}), "job 1: cost: to is 2, and may not be less than from, 3"),
+            (lambda: Clock({"job": [{"at": 1, "cost": {"from": 2, "to": 3}}]}), "job 1: its cost is by lot, and there is no seed"),
             (lambda: Clock({"steal": [{"from": 9, "to": 12, "percent": 1}, {"from": 0, "to": 10, "percent": 1}]}), "steal 2: two rows of stolen time hold at one time"),
         ]:
             found = self.raised(AgcError, call)
@@ -177,6 +181,30 @@ class Keeping(unittest.TestCase):
             self.assertNotIn("scene", self.raised(AgcError, lambda: agc.scene_of([*words[:place], bits, *words[place + 1:]])))
         self.raised(AgcError, lambda: agc.scene_of(words[:131]))
         self.raised(AgcError, lambda: agc.scene_of([]))
+        # A number that is no word is found as others are; what is no number isn't.
+        for bits, found in [(-1, "-0001"), (65536, "200000"), (32768, "100000")]:
+            told = agc.finding_of([*words[:3], bits, *words[4:]])
+            self.assertEqual((told.code, told.rule, told.place, told.found), (Code.NOT_WORDS, 1, 3, bits))
+            self.assertEqual(str(told), f"MPAC+3 of core set 0 (word 3) is {found}: a word has at most fifteen bits")
+        told = "words: MPAC+3 of core set 0 (word 3) has to be an int, and None is of type NoneType"
+        self.assertEqual(self.raised(TypeError, lambda: agc.finding_of([*words[:3], None, *words[4:]])), told)
+
+    def test_untidy_words_are_told(self):
+        """They are lawful, but no request leaves them so: MODE or PUSHLOC of a job, or a gap of LST1 that is minus 0."""
+        machine = Machine(8)
+        for line in ["novac 20 02000 00005", "novac 30 02000 00005", "change", "list 10 02000 00005", "list 10 02000 00005"]:
+            machine.ask(line)
+        words = machine.words
+        for place, bits, name in [(7, 1, "MODE of core set 0"), (22, 0o77777, "PUSHLOC of core set 1"), (91, 0o77777, "LST1 0")]:
+            other = [*words[:place], bits, *words[place + 1:]]
+            told = f"{name} (word {place}) is {bits:05o}, and would have to be 00000: no request leaves it so"
+            self.assertEqual(self.raised(AgcError, lambda: Machine(words=other)), f"words: {told}")
+            self.assertEqual((str(agc.finding_of(other)), agc.finding_of(other).code), (told, Code.UNTIDY))
+            self.assertEqual(agc.scene_of(other).running, 2)
+        # Of a free core set nothing is looked at but that it is free.
+        self.assertIsNone(agc.finding_of([*words[:31], 5, *words[32:]]))
+        for wanted in (lambda: Machine(words=words, power=["77777", "00000"] * 6), lambda: Machine(power=[], words=[])):
+            self.assertEqual(self.raised(ValueError, wanted), "a machine begins with words or with power, and not with both")
 
     def test_machines_and_clocks_are_kept(self):
         """What is kept goes on as what was kept does, and leaves it alone."""
@@ -191,6 +219,8 @@ class Keeping(unittest.TestCase):
             self.assertEqual((machine.words, machine.moment, machine.totals, clock.time, clock.given), was, name)
         for change in ({"words": [0] * 144}, {"moment": [0] * 144}, {"totals": [-1, [0, 0, 0], 0]}):
             self.raised(AgcError, lambda: Machine.of_state({**machine.state, **change}))
+        listed = {**machine.state, "totals": [5, [1, 2, 3], 6]}
+        self.assertEqual(Machine.of_state(listed).totals, agc.Totals(5, (1, 2, 3), 6), "as a version before wrote it")
         many = Machine.of_state({**machine.state, "totals": [2**40 + 5, [0, 0, 0], 0]})
         self.assertIn("\nSERVED 1099511627781\n", many.report())
         self.raised(ValueError, lambda: Machine.of_state({"sets": 8}))
@@ -271,21 +301,37 @@ class Keeping(unittest.TestCase):
             (lambda: machine.ask("novac", 2**32 + 1, 1, 1), "priority is 40000000001 (octal), and may be 1 to 37"),
             (lambda: machine.ask(""), "'': a line may not be empty"),
             (lambda: machine.ask("tick\r"), "'tick\\r': a line ends with LF alone, not with CR LF"),
+            (lambda: machine.ask("tick\n"), "'tick\\n': it has a line's end; give the line without it"),
             (lambda: machine.ask("novac 20"), "'novac 20': it has the form \"novac P A W\", with single spaces"),
             (lambda: machine.ask("novac 20 2000 00005"), "'novac 20 2000 00005': an address is five octal digits, 00001 to 37777"),
-            (lambda: machine.ask("prio", 7, 8), "'prio': no request of this name has 2 numbers"),
-            (lambda: Machine(words=[0] * 131), "there have to be 132 words, and these are 131"),
+            (lambda: machine.ask("prio", 7, 8), "'prio': no request of this name has 2 numbers; it has the form \"prio P\""),
+            (lambda: Machine(words=[0] * 131), "words: there have to be 132 or 144, and these are 131"),
             (lambda: Machine(plan={"task": [row]}),
-             "task 1 of the plan, action 2: 'tick': an action is nothing, or begins with novac, findvac, rouse or list"),
+             "task 1: action 2: 'tick': an action is nothing, or begins with novac, findvac, rouse or list"),
         ]:
             found = self.raised(AgcError, call)
             self.assertEqual(found, told)
-        told = "what a clock is for has to be a Machine, and None is of type NoneType"
+        told = "machine has to be a Machine, and None is of type NoneType"
         self.assertTrue(self.raised(TypeError, lambda: Clock().next(None)) == told == self.raised(TypeError, lambda: Clock().served(None, None)))
         self.raised(TypeError, lambda: machine.run(None, 5))
-        self.raised(TypeError, lambda: machine.ask("novac", 1.0, 1, 1))
+        for call, told in [
+            (lambda: machine.ask("novac", 1.0, 1, 1), "priority has to be an int, and 1.0 is of type float"),
+            (lambda: machine.ask("store", 1, True), "word has to be an int, and True is of type bool"),
+            (lambda: machine.ask(None), "request has to be a str, and None is of type NoneType"),
+            (lambda: agc.refusal_of("tick", agc.Bounds(0, "1", 0, 1)), "bounds: allowance has to be an int, and '1' is of type str"),
+            (lambda: agc.pulse_of("key", 5), "a pulse: key has to be a list of lines, and 5 is of type int"),
+            (lambda: Machine(sets="7"), "a machine: sets has to be an int, and '7' is of type str"),
+            (lambda: Machine(power=[None] * 12), "a machine: power 1 has to be an int or five octal digits, and None is of type NoneType"),
+            (lambda: Clock({"seconds": "5"}), "a timetable: seconds has to be a number, and '5' is of type str"),
+            (lambda: Clock({"event": [{"at": 0, "do": "tick", "name": []}]}), "event 1: name has to be a str, and [] is of type list"),
+            (lambda: Clock({"job": [{"at": True, "cost": 1}]}), "job 1: at has to be an int or five octal digits, and True is of type bool"),
+            (lambda: Machine.of_state({**machine.state, "totals": 5}), "totals has to be a dict, and 5 is of type int"),
+            (lambda: agc.place_name("x"), "a place has to be an int, and 'x' is of type str"),
+        ]:
+            self.assertEqual(self.raised(TypeError, call), told)
         machine.ask("findvac 20 02000 00005")
         self.assertEqual(repr(machine), "<Machine: job 1 runs; jobs: 1, tasks: 0, alarms: 0>", repr(machine))
+        self.assertEqual(repr(Clock({"seconds": 2, **SERVICER})), "<Clock: 0 of 200 centiseconds; jobs: 2, events: 2>")
         other = pickle.loads(pickle.dumps(AgcError(Code.NOT_SPELLED, "'tock'")))
         self.assertTrue((other.code, str(other)) == (Code.NOT_SPELLED, "'tock'") and agc.Lacking is AgcError)
 
