@@ -63,21 +63,30 @@ impl EraRow {
         row.cell(left("by", "by", 7), Text(begin_text(self.by)));
         row.cell(right("lasts", "lasts", 8), Seconds(self.lasts()));
         row.cell(right("requests", "requests", 8), Number(era.requests));
-        row.cell(right("begun", "begun", 5), Number(era.jobs_begun));
+        row.cell(right("began", "began", 5), Number(era.jobs_begun));
         row.cell(right("ended", "ended", 5), Number(era.jobs_ended));
         row.below();
-        let (count, since) = (right("sets", "sets", 5), right("since", "sets_since", 7));
+        let (count, since) = (
+            right("sets", "most_sets", 5),
+            right("since", "sets_since", 7),
+        );
         fill_peak(era.sets, row, count, since);
-        let (count, since) = (right("areas", "areas", 5), right("since", "areas_since", 7));
+        let (count, since) = (
+            right("areas", "most_areas", 5),
+            right("since", "areas_since", 7),
+        );
         fill_peak(era.areas, row, count, since);
-        let (count, since) = (right("tasks", "tasks", 5), right("since", "tasks_since", 7));
+        let (count, since) = (
+            right("tasks", "most_tasks", 5),
+            right("since", "tasks_since", 7),
+        );
         fill_peak(era.tasks, row, count, since);
-        let (idle, lost_column) = (right("idle", "idle", 4), right("lost", "lost", 6));
+        let (no_job, lost_column) = (right("no job", "no_job", 6), right("lost", "lost", 6));
         if has_time {
-            row.percent(idle, self.idle_percent());
+            row.percent(no_job, self.idle_percent());
             row.cell(lost_column, seconds(lost));
         } else if !is_text {
-            row.option(idle, None);
+            row.option(no_job, None);
             row.option(lost_column, None);
         }
         row.cell(left("ended by", "ended_by", 0), Text(end_text(self.end)));

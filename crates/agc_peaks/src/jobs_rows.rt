@@ -22,9 +22,12 @@ struct Mean {
     slept: u64,
 }
 
-/// The mean of an address's jobs that ended.
-fn mean_of(row: &AddressStatistics) -> Mean {
-    let count = (row.responses.len() as u64).max(1);
+/// The mean of an address's jobs that ended; None if none did.
+fn mean_of(row: &AddressStatistics) -> Option<Mean> {
+    let count = row.responses.len() as u64;
+    if count == 0 {
+        return None;
+    }
     let mut sum: u64 = 0;
     for response in row.responses.iter() {
         sum = sum.saturating_add(*response);
@@ -32,18 +35,19 @@ fn mean_of(row: &AddressStatistics) -> Mean {
     let waited = sum
         .saturating_sub(row.computed_to_end)
         .saturating_sub(row.slept_to_end);
-    Mean {
+    Some(Mean {
         response: sum / count,
         computed: row.computed_to_end / count,
         waited: waited / count,
         slept: row.slept_to_end / count,
-    }
+    })
 }
 
-/// The least of the times, which are in order, that this percentage of them doesn't exceed.
-fn percentile(times: &[u64], percent: usize) -> u64 {
+/// The least of the times, which are in order, that this percentage of them doesn't exceed; None if
+/// there are none.
+fn percentile(times: &[u64], percent: usize) -> Option<u64> {
     let rank = times.len().saturating_mul(percent).saturating_add(99) / 100;
-    times.get(rank.saturating_sub(1)).copied().unwrap_or(0)
+    times.get(rank.saturating_sub(1)).copied()
 }
 
 /// Adds to a row how many jobs of an address there were, how long they took, and how much of it
@@ -51,20 +55,25 @@ fn percentile(times: &[u64], percent: usize) -> u64 {
 pub(crate) fn fill_times(row: &mut Row, jobs: &AddressStatistics, has_time: bool) {
     let times = jobs.responses.as_slice();
     let mean = mean_of(jobs);
-    let (first, last) = (times.first().copied(), times.last().copied());
+    let (least, most) = (times.first().copied(), times.last().copied());
     row.cell(right("began", "began", 5), Number(jobs.began));
     row.cell(right("ended", "ended", 5), Number(times.len() as u64));
     row.cell(right("lost", "lost", 5), Number(jobs.lost));
     row.cell(right("alive", "alive", 5), Number(jobs.alive));
-    row.cell(right("least", "least", 7), seconds(first.unwrap_or(0)));
-    row.cell(right("mean", "mean", 7), seconds(mean.response));
-    row.cell(right("95%", "p95", 7), seconds(percentile(times, 95)));
-    row.cell(right("most", "most", 7), seconds(last.unwrap_or(0)));
+    row.option(right("least", "least", 7), least.map(seconds));
+    let response = mean.map(|mean| seconds(mean.response));
+    row.option(right("mean", "mean", 7), response);
+    row.option(right("95%", "p95", 7), percentile(times, 95).map(seconds));
+    row.option(right("most", "most", 7), most.map(seconds));
     row.below();
-    let computed = Some(seconds(mean.computed)).filter(|_mean| has_time);
+    let computed = mean
+        .filter(|_mean| has_time)
+        .map(|mean| seconds(mean.computed));
     row.option(right("computing", "computing", 9), computed);
-    row.cell(right("waiting", "waiting", 7), seconds(mean.waited));
-    row.cell(right("sleeping", "sleeping", 8), seconds(mean.slept));
+    let waited = mean.map(|mean| seconds(mean.waited));
+    row.option(right("waiting", "waiting", 7), waited);
+    let slept = mean.map(|mean| seconds(mean.slept));
+    row.option(right("sleeping", "sleeping", 8), slept);
     let taken_over = Number(jobs.taken_over);
     row.cell(right("taken over", "taken_over", 10), taken_over);
 }
@@ -144,7 +153,8 @@ fn put_rows(table: &mut Table, statistics: &JobStatistics<'_>, timing: Option<&T
     }
 }
 
-/// Adds the cells of an era, which ended at this centisecond, to a row.
+/// Adds the cells of an era, which ended at this centisecond, to a row: without shares where no time
+/// is known to have passed.
 fn fill_era(row: &mut Row, number: u64, era: &EraTime, ended: u64) {
     let lasts = ended.saturating_sub(era.began);
     let time = era
@@ -154,9 +164,18 @@ fn fill_era(row: &mut Row, number: u64, era: &EraTime, ended: u64) {
     row.cell(right("era", "era", 4), Number(number));
     row.cell(right("begins", "begins", 8), Seconds(era.began));
     row.cell(right("lasts", "lasts", 8), Seconds(lasts));
-    row.share(right("computing", "computing", 9), era.computed, time);
-    row.share(right("stolen", "stolen", 6), era.stolen, time);
-    row.share(right("idle", "idle", 6), era.idle, time);
+    let parts = [
+        (right("computing", "computing", 9), era.computed),
+        (right("stolen", "stolen", 6), era.stolen),
+        (right("idle", "idle", 6), era.idle),
+    ];
+    for (column, part) in parts {
+        if time == 0 {
+            row.option(column, None);
+        } else {
+            row.share(column, part, time);
+        }
+    }
 }
 
 /// Adds how the time of each era was used.

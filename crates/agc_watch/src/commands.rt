@@ -221,9 +221,9 @@ const PEAKS: CommandSpec = CommandSpec {
 era, begins         the era's number, and the second at which it began
 by, ended by        why: the start or the end, an alarm or a restart
 lasts, requests     its seconds, and how many requests were served in it
-begun, ended        how many jobs were established in it, and ended
+began, ended        how many jobs were established in it, and ended
 sets, areas, tasks  the most in use at once, and the second since which
-idle                the percentage of its ticks at which no job was running
+no job              the percentage of its ticks at which no job was running
 lost                the seconds that jobs had computed that its end lost
 
 Example: agc_watch peaks examples/no-vac-area.toml",

@@ -2,7 +2,7 @@
 use crate::commands::{named_command, whole_command};
 use crate::page::PageView;
 use crate::progress::WorkUnit;
-use crate::stops::Stop;
+use crate::stops::{Stop, join_words};
 use agc_explore::{CallerRules, ExploreOptions, TickBounds};
 use agc_plan::Alarm;
 use agc_program::ProgramFault;
@@ -174,37 +174,43 @@ fn file_of(word: Option<&str>) -> Option<&str> {
     }
 }
 
+/// A reason why the words are wrong, and the word that is, if it is one.
+#[derive(Clone, Copy)]
+struct WordFault<'a> {
+    reason: &'static str,
+    word: Option<&'a str>,
+}
+
 /// The words after a command, whether texts have to fit a terminal, the file that is named, and the
-/// first reason why the words are wrong, if there is one.
+/// first fault of the words, if there is one.
 #[derive(Drop)]
 struct Words<'a, 'b> {
     given: &'b ArgMatches<'a>,
     folds: bool,
     file: Option<&'a str>,
-    wrong: Option<&'static str>,
+    fault: Option<WordFault<'a>>,
 }
 
 impl<'a, 'b> Words<'a, 'b> {
-    /// Notes a reason unless the check succeeds, or there was a reason before.
+    /// Notes a reason unless the check succeeds, or there was a fault before.
     fn check(&mut self, is_right: bool, reason: &'static str) {
-        if !is_right && self.wrong.is_none() {
-            self.wrong = Some(reason);
+        self.check_word(is_right, reason, None);
+    }
+
+    /// Notes a reason and the word that is wrong unless the check succeeds, or there was a fault
+    /// before.
+    fn check_word(&mut self, is_right: bool, reason: &'static str, word: Option<&'a str>) {
+        if !is_right && self.fault.is_none() {
+            self.fault = Some(WordFault { reason, word });
         }
     }
 
-    /// The number of an option, if it is given. A text that is no number is noted.
+    /// A number, if it is given. A word that is none is noted.
     fn number(&mut self, name: &str, reason: &'static str) -> Option<u64> {
+        let word = self.given.get_str(name);
         let number = self.given.get_one::<u64>(name);
-        let is_given = self.given.get_str(name).is_some();
-        self.check(number.is_some() || !is_given, reason);
+        self.check_word(number.is_some() || word.is_none(), reason, word);
         number
-    }
-
-    /// The number of an option that is required.
-    fn bound(&mut self, name: &str, reason: &'static str) -> u64 {
-        let number = self.given.get_one::<u64>(name);
-        self.check(number.is_some(), reason);
-        number.unwrap_or(0)
     }
 
     /// The alarm that an option names, if it is given.
@@ -216,8 +222,7 @@ impl<'a, 'b> Words<'a, 'b> {
             Some("1203") => Some(Alarm::A1203),
             _ => None,
         };
-        let is_right = alarm.is_some() || text.is_none();
-        self.check(is_right, reason);
+        self.check_word(alarm.is_some() || text.is_none(), reason, text);
         alarm
     }
 
@@ -225,13 +230,13 @@ impl<'a, 'b> Words<'a, 'b> {
     fn hundredths(&mut self, name: &str, reason: &'static str) -> Option<u64> {
         let text = self.given.get_str(name)?;
         let number = hundredths_of(text);
-        self.check(number.is_some(), reason);
+        self.check_word(number.is_some(), reason, Some(text));
         number
     }
 
     /// The form of a table.
     fn form(&mut self, reason: &'static str) -> TableForm {
-        let width = self.number("width", "--width wants a number");
+        let width = self.number("width", "--width wants a whole number");
         let lines = self.given.get_flag("jsonl") || self.given.get_flag("json");
         let csv = self.given.get_flag("csv");
         self.check(!csv || !lines, reason);
@@ -259,8 +264,8 @@ impl<'a, 'b> Words<'a, 'b> {
 
     /// Reads the words after `trace`.
     fn trace(&mut self) -> Subcommand<'a> {
-        let from = self.hundredths("from", "--from wants seconds, with at most two decimals");
-        let to = self.hundredths("to", "--to wants seconds, with at most two decimals");
+        let from = self.hundredths("from", "--from wants a number with at most two decimals");
+        let to = self.hundredths("to", "--to wants a number with at most two decimals");
         let is_right = from.unwrap_or(0) <= to.unwrap_or(u64::MAX);
         self.check(is_right, "--from is beyond --to");
         let choice = TraceOptions {
@@ -281,7 +286,7 @@ impl<'a, 'b> Words<'a, 'b> {
         let view = match self.given.get_str("view") {
             None => PageView::Whole,
             named => {
-                self.check(named == Some("chart"), "--view wants chart");
+                self.check_word(named == Some("chart"), "--view wants chart", named);
                 PageView::Chart
             }
         };
@@ -290,16 +295,17 @@ impl<'a, 'b> Words<'a, 'b> {
 
     /// A number of requests, if it is given.
     fn requests(&mut self, name: &str, reason: &'static str) -> Option<u16> {
-        let number = self.number(name, reason);
+        let word = self.given.get_str(name);
+        let number = self.given.get_one::<u64>(name);
         let short = number.and_then(|number| u16::try_from(number).ok());
-        self.check(short.is_some() || number.is_none(), reason);
+        self.check_word(short.is_some() || word.is_none(), reason, word);
         short
     }
 
     /// The number of requests between two ticks.
     fn ticks(&mut self) -> TickBounds {
-        let least = self.requests("least", "--least wants a number up to 65535");
-        let most = self.requests("most", "--most wants a number up to 65535");
+        let least = self.requests("least", "--least wants a whole number up to 65535");
+        let most = self.requests("most", "--most wants a whole number up to 65535");
         let least = least.unwrap_or(0);
         let is_right = least <= most.unwrap_or(u16::MAX);
         self.check(is_right, "--least is beyond --most");
@@ -309,10 +315,15 @@ impl<'a, 'b> Words<'a, 'b> {
     /// Reads the words after `explore`.
     fn explore(&mut self) -> ExploreOptions {
         let repeats = self.given.get_flag("repeat");
-        let states = self.number("states", "--states wants a number");
+        let states = self.number("states", "--states wants a whole number below 2^64");
         let bench = self.alarm("bench", "--bench wants 1201, 1202 or 1203");
         let csv = self.given.get_flag("csv");
         self.check(bench.is_none() || !csv, "--bench and --csv are two outputs");
+        let peaks = self.given.get_flag("peaks");
+        self.check(
+            bench.is_none() || !peaks,
+            "--bench and --peaks are two outputs",
+        );
         let alarm = self.alarm("alarm", "--alarm wants 1201, 1202 or 1203");
         let is_one = bench.is_none() || alarm.is_none() || alarm == bench;
         self.check(is_one, "--alarm and --bench name two alarms");
@@ -320,7 +331,7 @@ impl<'a, 'b> Words<'a, 'b> {
             states: states.unwrap_or(STATES),
             alarm,
             rules: CallerRules::new(self.given.get_flag("through"), repeats, self.ticks()),
-            peaks: self.given.get_flag("peaks"),
+            peaks,
             bench,
             csv,
         }
@@ -333,7 +344,8 @@ impl<'a, 'b> Words<'a, 'b> {
             Some(step) => step,
             None if word.is_none() => 1,
             None => {
-                self.check(self.given.get_str("file").is_none(), "STEP is no number");
+                let is_file = self.given.get_str("file").is_none();
+                self.check_word(is_file, "STEP wants a whole number (FILE comes last)", word);
                 self.file = file_of(word);
                 1
             }
@@ -342,8 +354,10 @@ impl<'a, 'b> Words<'a, 'b> {
 
     /// The values of the first number of a sweep.
     fn first_values(&mut self) -> Values<'a> {
-        let from = self.bound("from", "FROM is no number");
-        let to = self.bound("to", "TO is no number");
+        let from = self
+            .number("from", "FROM wants a whole number")
+            .unwrap_or(0);
+        let to = self.number("to", "TO wants a whole number").unwrap_or(0);
         let step = self.step();
         self.check(step > 0, "STEP is 0");
         self.check(from <= to, "FROM is beyond TO");
@@ -355,7 +369,7 @@ impl<'a, 'b> Words<'a, 'b> {
         let text = self.given.get_str("and")?;
         let values = values_of(text);
         let reason = "--and wants KEY:FROM:TO or KEY:FROM:TO:STEP, such as steal:0:20:5";
-        self.check(values.is_some(), reason);
+        self.check_word(values.is_some(), reason, Some(text));
         if let Some(values) = values {
             self.check(values.step > 0, "STEP of --and is 0");
             self.check(values.from <= values.to, "FROM of --and is beyond TO");
@@ -428,17 +442,28 @@ fn parse_matches<'a>(
         given,
         folds,
         file: file_of(given.get_str("file")),
-        wrong: None,
+        fault: None,
     };
     let subcommand = words.subcommand(command);
-    match words.wrong {
-        Some(reason) => Err(refused_words(alloc, command, reason)),
+    match words.fault {
+        Some(fault) => Err(refused_word(alloc, command, fault)),
         None => Ok(Invocation {
             subcommand,
             input: input_of(subcommand, words.file),
             is_script: given.get_flag("script"),
             has_progress: given.get_flag("progress"),
         }),
+    }
+}
+
+/// Words after this command that have this fault.
+fn refused_word(alloc: Global, command: &str, fault: WordFault<'_>) -> Stop {
+    match fault.word {
+        None => refused_words(alloc, command, fault.reason),
+        Some(word) => match join_words(alloc, &[fault.reason, ", not '", word, "'"]) {
+            Ok(reason) => refused_words(alloc, command, reason.as_str()),
+            Err(_no_memory) => Stop::ProgramFault(ProgramFault::NoMemory),
+        },
     }
 }
 
