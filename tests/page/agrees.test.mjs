@@ -40,7 +40,8 @@ function sweptBy(bench) {
 /** A row of the table of jobs, as those columns. @param {import("../../web/jobs.js").JobRow} row */
 function cellsOf({ began, ended, lost, alive, least, mean, most, share, deadline, missed, firstMissed }) {
   const seconds = (/** @type {number} */ hundredths) => (Math.floor((hundredths + 50) / 100) / 100).toFixed(2);
-  return [began, ended, lost, alive, seconds(least), seconds(mean), seconds(most), (Math.floor(1000 * share + 0.5 + EXACT) / 10).toFixed(1),
+  const responses = [least, mean, most].map((it) => (ended === 0 ? "" : seconds(it)));
+  return [began, ended, lost, alive, ...responses, (Math.floor(1000 * share + 0.5 + EXACT) / 10).toFixed(1),
     deadline === null ? "" : missed, firstMissed === null ? "" : seconds(firstMissed)].join(",");
 }
 

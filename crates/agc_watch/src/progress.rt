@@ -51,8 +51,8 @@ pub(crate) struct ProgressReporter<'a> {
 }
 
 impl<'a> ProgressReporter<'a> {
-    /// Starts now, and counts these. Progress is reported if it is wanted, and if standard error is a
-    /// terminal where no report can stand within a table.
+    /// Starts now, and counts these. Progress is reported if it is wanted, and on a terminal where
+    /// no report can stand within a table.
     pub(crate) fn new(
         rt: &'a HostRuntime,
         work_unit: WorkUnit,
