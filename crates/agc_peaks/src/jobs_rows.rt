@@ -153,8 +153,8 @@ fn put_rows(table: &mut Table, statistics: &JobStatistics<'_>, timing: Option<&T
     }
 }
 
-/// Adds the cells of an era, which ended at this centisecond, to a row: without shares if no time is
-/// known to have passed.
+/// Adds the cells of an era, which ended at this centisecond, to a row: without shares if no time
+/// is known to have passed.
 fn fill_era(row: &mut Row, number: u64, era: &EraTime, ended: u64) {
     let lasts = ended.saturating_sub(era.began);
     let time = era
