@@ -39,7 +39,7 @@ export function pulseOf(line: string, plan?: {
  */
 export function placeName(place: number): string;
 /**
- * Why these words, 132 or 144, aren't lawful; null where they are.
+ * Why no machine begins with these words, 132 or 144; null where one does.
  * @param {ArrayLike<number>} words
  * @returns {Finding | null}
  */
@@ -113,9 +113,10 @@ export function sceneOf(words: ArrayLike<number>): Scene;
  * @typedef {{ timetable: Timetable, at: number[], alarms?: FirstAlarms }} ClockState
  */
 /**
- * Why words aren't lawful: the rule that is broken first, the word's place, from 0, what stands there, and what would have
- * to; null where the other words leave more than one choice.
- * @typedef {{ rule: number, place: number, found: number, wanted: number | null, text: string }} Finding
+ * Why no machine begins with words: the code that a call lacks; the rule of lawful words that is broken first, 0 where they are
+ * lawful and no request leaves them so; the word's place, from 0, what stands there, and what would have to: null where the
+ * other words leave more than one choice.
+ * @typedef {{ code: number, rule: number, place: number, found: number, wanted: number | null, text: string }} Finding
  */
 /**
  * How many requests were served, and how many are at most; how many were since the last era began, and how many are at
@@ -174,7 +175,7 @@ export class Step {
 export class Machine {
     /** A machine of what `state` told. Its words are looked at as those from elsewhere are.
    * @param {MachineState} state */
-    static of(state: MachineState): Machine;
+    static ofState(state: MachineState): Machine;
     /** @param {{ sets?: number, plan?: Plan, power?: readonly (number | string)[], words?: ArrayLike<number> }} given */
     constructor(given?: {
         sets?: number | undefined;
@@ -215,9 +216,11 @@ export class Machine {
     /** What the words say, as `sceneOf` has it.
    * @returns {Scene} */
     scene(): Scene;
-    /** All of it, of which JSON can be made, for `Machine.of`.
+    /** All of it, of which JSON can be made, for `Machine.ofState`.
    * @returns {MachineState} */
     get state(): MachineState;
+    /** What JSON has of it. */
+    toJSON(): MachineState;
     /** The report that `agc` writes. */
     report(): string;
     /** A machine of its own with the same words, plan and totals. */
@@ -250,12 +253,16 @@ export class Asked {
 export class Clock {
     /** A clock of what `state` told.
    * @param {ClockState} state */
-    static of(state: ClockState): Clock;
+    static ofState(state: ClockState): Clock;
     /** @param {Timetable} timetable */
     constructor(timetable?: Timetable);
-    /** All of it, of which JSON can be made, for `Clock.of`.
+    /** All of it, of which JSON can be made, for `Clock.ofState`.
    * @returns {ClockState} */
     get state(): ClockState;
+    /** What JSON has of it. */
+    toJSON(): ClockState;
+    /** Where it is, and how many jobs and events its timetable has. */
+    toString(): string;
     /**
      * The next request for this machine, or null where the time is over. The clock has then gone on,
      * so that it is to be asked, and `served` to be told of it.
@@ -275,7 +282,7 @@ export class Clock {
      */
     get given(): number[];
     /** How many centiseconds the timetable lasts. */
-    get lasts(): number;
+    get lasts(): any;
     /** Another timetable from here on, of which what isn't named stays as it was.
    * @param {Timetable} timetable */
     change(timetable: Timetable): void;
@@ -406,10 +413,12 @@ export type ClockState = {
     alarms?: FirstAlarms;
 };
 /**
- * Why words aren't lawful: the rule that is broken first, the word's place, from 0, what stands there, and what would have
- * to; null where the other words leave more than one choice.
+ * Why no machine begins with words: the code that a call lacks; the rule of lawful words that is broken first, 0 where they are
+ * lawful and no request leaves them so; the word's place, from 0, what stands there, and what would have to: null where the
+ * other words leave more than one choice.
  */
 export type Finding = {
+    code: number;
     rule: number;
     place: number;
     found: number;

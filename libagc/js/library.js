@@ -132,7 +132,7 @@ export const Kind = Object.freeze({
   RESTARTED: 14,
 });
 
-/** @type {Record<number, string>} */
+/** Texts, by their numbers. @type {Record<number, string>} */
 export const CODE_TEXTS = Object.freeze({
   0: "the call was served",
   1: "the number of core sets is neither 7 nor 8",
@@ -155,7 +155,7 @@ export const CODE_TEXTS = Object.freeze({
   20: "the log is full, which only a restart or a fresh start empties",
 });
 
-/** @type {Record<number, string>} */
+/** Texts, by their numbers. @type {Record<number, string>} */
 export const REPLY_TEXTS = Object.freeze({
   1: "a job was established",
   2: "the running job ended or sleeps, and another runs",
@@ -205,7 +205,7 @@ export const NUMBERS = Object.freeze({
   ANY: 65535,
 });
 
-/** How large each struct is, and where its fields are in it. */
+/** How large each struct is, and where its fields are in it. @type {Record<string, Record<string, number>>} */
 export const LAYOUT = Object.freeze({
   AgcReply: { size: 12, code: 0, reply: 4, number: 8 },
   AgcNumber: { size: 8, code: 0, number: 4 },
@@ -271,7 +271,7 @@ export const PLACES = [
   "PRIORITY of core set 7",
 ];
 
-/** The numbers of lines: `digits` is how many octal ones, and 0 where a number is decimal. */
+/** The numbers of lines: `digits` is how many octal ones, and 0 where a number is decimal. @type {Record<string, { name: string, sentence: string, digits: number, low: number, high: number }>} */
 export const PARTS = Object.freeze({
   P: { name: "priority", sentence: "a priority is octal, 01 to 37", digits: 2, low: 1, high: 31 },
   A: { name: "address", sentence: "an address is five octal digits, 00001 to 37777", digits: 5, low: 1, high: 16383 },
@@ -318,7 +318,9 @@ export const OTHERWISE = new Map([
 
 export const DEVICES = ["timer", "key", "radar"];
 
-/** The keys of each kind of table. */
+/** @typedef {{ kind: string, form: string, low: number, high: bigint, required: boolean }} Key */
+
+/** The keys of each kind of table. @type {Record<string, Record<string, Key>>} */
 export const KEYS = Object.freeze({
   bench: {
     sets: { kind: "integer", form: "", low: 7, high: 8n, required: false },

@@ -13,7 +13,7 @@ import {
   ACTION_KINDS, CODE_TEXTS, Code, DEVICES, FORMS, JOB_KINDS, KEYS, Kind, LAYOUT, LEAVING_KINDS, LISTING_KINDS, NUMBERS,
   PARTS, PLACES, REPLY_TEXTS, REQUEST_KINDS, STEP_KINDS,
 } from "./library.js";
-import { lineFault, partOf } from "./lines.js";
+import { lineFault, nearest, partOf } from "./lines.js";
 
 export { Code, Kind };
 
@@ -91,9 +91,10 @@ export { Code, Kind };
  */
 
 /**
- * Why words aren't lawful: the rule that is broken first, the word's place, from 0, what stands there, and what would have
- * to; null where the other words leave more than one choice.
- * @typedef {{ rule: number, place: number, found: number, wanted: number | null, text: string }} Finding
+ * Why no machine begins with words: the code that a call lacks; the rule of lawful words that is broken first, 0 where they are
+ * lawful and no request leaves them so; the word's place, from 0, what stands there, and what would have to: null where the
+ * other words leave more than one choice.
+ * @typedef {{ code: number, rule: number, place: number, found: number, wanted: number | null, text: string }} Finding
  */
 
 /**
@@ -145,6 +146,7 @@ const SIZE = {
 };
 const PAGE = 65536;
 const MOST = 0xffffffff;
+const MINUS_ZERO = 0o77777;
 
 /** @type {any} */
 let calls = null;
@@ -220,21 +222,48 @@ function isStarted() {
   if (calls === null) throw new TypeError("the module isn't there yet: await start(bytes)");
 }
 
+// What is given from outside. `what` names it in a message: "job 2: cost".
+
 /** What was given, as a message quotes it. @param {unknown} given */
 function shown(given) {
-  return typeof given === "object" || typeof given === "string" ? JSON.stringify(given) : String(given);
+  try {
+    return typeof given === "object" || typeof given === "string" ? JSON.stringify(given) : String(given);
+  } catch {
+    return "an object";
+  }
+}
+
+/** A fault of what isn't of the right type. @param {string} what @param {string} wanted @param {unknown} given */
+function wrong(what, wanted, given) {
+  return new TypeError(`${what} has to be ${wanted}, and this is ${shown(given)}`);
 }
 
 /** Throws where a thing isn't what it has to be. @param {Function} kind @param {string} what @param {unknown} given */
 function isOf(kind, what, given) {
-  if (given instanceof /** @type {any} */ (kind)) return;
-  throw new TypeError(`${what} has to be a ${kind.name}, and this is ${shown(given)}`);
+  if (!(given instanceof /** @type {any} */ (kind))) throw wrong(what, `a ${kind.name}`, given);
 }
 
-/** A number as the library takes it: one that has more than 32 bits is out of every range. @param {number} number */
-function whole(number) {
-  if (!Number.isInteger(number)) throw new TypeError(`a number has to be an integer, and this is ${shown(number)}`);
-  return number >= 0 && number <= MOST ? number : MOST;
+/**
+ * An integer in its range, which a message has in octal digits where these are wanted.
+ * @param {string} what @param {any} given @param {number} [low] @param {number | bigint} [high] @param {number} [code]
+ * @param {number} [digits]
+ * @returns {number}
+ */
+function integer(what, given, low = 0, high = MOST, code = Code.OUT_OF_RANGE, digits = 0) {
+  // (counts that may be above 2^53 have a bigint as their most)
+  if (!Number.isInteger(given) && !(typeof given === typeof high && typeof high === "bigint")) throw wrong(what, "an integer", given);
+  if (given >= low && given <= high) return given;
+  const [is, least, most] = [given, low, high].map((it) => it.toString(digits === 0 ? 10 : 8));
+  throw new AgcError(code, `${what} is ${is}${digits === 0 ? "" : " (octal)"}, and may be ${least} to ${most}`);
+}
+
+/** A word or an address: a number, or its five octal digits. @param {string} what @param {any} given @param {string} letter @param {number} code */
+function word(what, given, letter, code) {
+  if (!Number.isInteger(given) && typeof given !== "string") throw wrong(what, "an integer or five octal digits", given);
+  const { low, high, sentence } = partOf(letter);
+  const number = typeof given === "number" ? given : /^[0-7]{5}$/.test(given) ? parseInt(given, 8) : -1;
+  if (number >= low && number <= high) return number;
+  throw new AgcError(code, `${what}: ${shown(given)}: ${sentence}`);
 }
 
 /**
@@ -243,56 +272,108 @@ function whole(number) {
  * @param {string} what @param {any} given @param {string[]} keys @param {string[]} [wanted]
  */
 function known(what, given, keys, wanted = []) {
-  if (typeof given !== "object" || given === null || Array.isArray(given)) {
-    throw new TypeError(`${what} has to be an object, and this is ${shown(given)}`);
-  }
+  if (typeof given !== "object" || given === null || Array.isArray(given)) throw wrong(what, "an object", given);
   const other = Object.keys(given).find((it) => given[it] !== undefined && !keys.includes(it));
   if (other !== undefined) {
-    throw new TypeError(`${what} has no key ${JSON.stringify(other)}, only ${keys.join(", ")}`);
+    const near = nearest(other, keys);
+    const meant = near === undefined ? `, only ${keys.join(", ")}` : `: is it ${shown(near)}?`;
+    throw new TypeError(`${what} has no key ${shown(other)}${meant}`);
   }
   const missing = wanted.find((it) => given[it] === undefined);
-  if (missing !== undefined) throw new TypeError(`${what} has to have ${JSON.stringify(missing)}`);
+  if (missing !== undefined) throw new TypeError(`${what} has to have ${shown(missing)}`);
 }
 
 /**
- * Throws where a number of a table, or an address or a word, is out of its range.
- * @param {string} what @param {any} given @param {keyof typeof KEYS} level @param {number} code
+ * The items of an array, so many.
+ * @param {string} what @param {any} given @param {string} of @param {number} [low] @param {number} [high] @param {number} [code]
+ * @returns {any[]}
  */
-function inRange(what, given, level, code) {
-  for (const [name, { kind, form, low, high }] of Object.entries(KEYS[level])) {
-    const [it, part] = [given[name], Object.values(PARTS).find((one) => one.name === form)];
-    if (it !== undefined && kind === "integer" && !(it instanceof Object) && (whole(it) < low || it > high || it < 0)) {
-      throw new AgcError(code, `${what}: ${name} is ${it}, and may be ${low} to ${high}`);
-    }
-    if (it !== undefined && part !== undefined && (octal(it) < part.low || octal(it) > part.high)) {
-      throw new AgcError(code, `${what}, ${name}: ${shown(it)}: ${part.sentence}`);
-    }
-    const count = [it].flat().length;
-    if (it !== undefined && kind === "oneOrMore" && (count < low || count > high)) {
-      throw new AgcError(code, `${what}: ${name} has to have ${low} to ${high} lines, and has ${count}`);
-    }
+function items(what, given, of, low = 0, high = MOST, code = Code.OUT_OF_RANGE) {
+  if (typeof given !== "object" || !Number.isInteger(given?.length)) throw wrong(what, `an array of ${of}`, given);
+  const { length } = given;
+  if (length >= low && length <= high) return Array.from(given);
+  throw new AgcError(code, `${what} has to have ${low}${low === high ? "" : ` to ${high}`} ${of}, and has ${length}`);
+}
+
+/** @type {Record<string, string[]>} */
+const KINDS = {
+  action: ACTION_KINDS, job: JOB_KINDS, listing: LISTING_KINDS, request: REQUEST_KINDS, step: STEP_KINDS, leaving: LEAVING_KINDS,
+};
+const { PLAN_RANGE, TIME_RANGE } = Code;
+/** What a value that is out of range lacks, by its key or its table. @type {Record<string, number>} */
+const CODES = {
+  sets: Code.NO_SUCH_SETS, power: Code.NOT_WORDS, key: PLAN_RANGE, radar: PLAN_RANGE, namedTask: PLAN_RANGE, namedPhase: PLAN_RANGE,
+};
+
+/**
+ * What a text of this form says: the number of a word or an address, or the numbers of a line.
+ * @param {string} what @param {string} form @param {any} given @param {number} code
+ * @returns {any}
+ */
+function textOf(what, form, given, code) {
+  if (form === "address" || form === "word") return word(what, given, form[0].toUpperCase(), code);
+  if (form in KINDS) return read(given, KINDS[form], what);
+  if (typeof given !== "string") throw wrong(what, "a string", given);
+  return given;
+}
+
+/**
+ * What the value of a key in a table of this level says; undefined where it isn't given.
+ * @param {string} table @param {string} level @param {string} name @param {any} given
+ * @returns {any}
+ */
+function valueOf(table, level, name, given) {
+  const { kind, form, low } = KEYS[level][name];
+  const high = Number(KEYS[level][name].high);
+  const [what, code] = [`${table}: ${name}`, CODES[name] ?? CODES[level] ?? TIME_RANGE];
+  if (given === undefined) return undefined;
+  if (name === "seconds") return centiseconds(what, given);
+  if (name === "cost" && given instanceof Object) return tableOf(what, "cost", given);
+  if (kind === "tables" || (name === "steal" && typeof given !== "number")) {
+    return items(what, given, kind === "tables" ? "objects" : "objects or an integer")
+      .map((it, k) => tableOf(`${name} ${k + 1}`, form || name, it));
   }
+  if (kind === "integer") return integer(what, given, low, high, code);
+  if (kind === "text") return textOf(what, form, given, code);
+  const isOne = kind === "oneOrMore" && typeof given === "string";
+  const all = isOne ? [given] : items(what, given, form === "word" ? "words" : "lines", low, high, code);
+  const formAt = (/** @type {number} */ k) => (name !== "then" ? form : k === all.length - 1 ? "leaving" : "step");
+  return all.map((it, k) => textOf(`${what} ${k + 1}`, formAt(k), it, code));
 }
 
-/**
- * Throws where a table hasn't the keys of this level alone, with all that are required, and numbers in their ranges.
- * @param {string} what @param {any} given @param {keyof typeof KEYS} level
- */
-function hasKeys(what, given, level) {
+/** What a table of this level says, key by key. @param {string} what @param {string} level @param {any} given @returns {any} */
+function tableOf(what, level, given) {
   const keys = Object.entries(KEYS[level]);
   known(what, given, keys.map(([name]) => name), keys.flatMap(([name, it]) => (it.required ? [name] : [])));
-  inRange(what, given, level, ["namedTask", "namedPhase"].includes(level) ? Code.PLAN_RANGE : Code.TIME_RANGE);
+  return Object.fromEntries(keys.map(([name]) => [name, valueOf(what, level, name, given[name])]));
 }
 
-// What a timetable has, and what documents have at all, of which each may stand for a plan or a timetable.
+// What a plan and a timetable have, and what documents have at all, of which each may stand for either.
+const PLANS = ["task", "phase"];
 const TIMES = Object.keys(KEYS.scenario).filter((it) => !(it in KEYS.bench) && it !== "title");
 const DOCUMENT = [...new Set([...Object.keys(KEYS.bench), ...Object.keys(KEYS.scenario)])];
+const LAST_TIME = Number(KEYS.event.at.high);
 
-/** The rows of a list. @template T @param {string} what @param {readonly T[] | undefined} given @returns {readonly T[]} */
-function rowsOf(what, given) {
-  if (given === undefined) return [];
-  if (Array.isArray(given)) return given;
-  throw new TypeError(`${what} has to be an array, and this is ${shown(given)}`);
+/**
+ * These keys of a document: what they say, and as they are given, of which a later change changes nothing.
+ * @param {string} what @param {any} given @param {string[]} keys
+ */
+function partsOf(what, given, keys) {
+  known(what, given, DOCUMENT);
+  const says = Object.fromEntries(keys.map((it) => [it, valueOf(what, "scenario", it, given[it])]));
+  const kept = structuredClone(Object.fromEntries(keys.flatMap((it) => (given[it] === undefined ? [] : [[it, given[it]]]))));
+  return { says, kept };
+}
+
+/** How many centiseconds so many seconds are. @param {string} what @param {any} seconds */
+function centiseconds(what, seconds) {
+  if (typeof seconds !== "number") throw wrong(what, "a number", seconds);
+  if (!(seconds >= 0 && seconds <= LAST_TIME / 100)) {
+    throw new AgcError(TIME_RANGE, `${what} is ${seconds}, and may be 0 to ${LAST_TIME / 100}`);
+  }
+  const found = Math.round(100 * seconds);
+  if (Math.abs(100 * seconds - found) < 1e-6) return found;
+  throw new AgcError(TIME_RANGE, `${what} has to be whole centiseconds, and is ${seconds}`);
 }
 
 /**
@@ -327,13 +408,6 @@ function look(call, lent, counts) {
       if (call(BigInt(lent)) === code) throw new AgcError(code, `${name} ${numbers[at]}: ${codeText(code)}`);
     }
   }
-}
-
-/** A word or an address: a number, or its five octal digits. @param {number | string} given */
-function octal(given) {
-  if (typeof given === "number") return whole(given);
-  if (typeof given === "string") return /^[0-7]{5}$/.test(given) ? parseInt(given, 8) : MOST;
-  throw new TypeError(`a word has to be a number or octal digits, and this is ${shown(given)}`);
 }
 
 /**
@@ -374,73 +448,40 @@ function numbersAt(place, count) {
   return taken(numbers, place / 4, count);
 }
 
-/**
- * Throws what isn't served of a request, and which number is out of its range.
- * @param {number} code @param {string} name @param {number[]} given
- */
-function rangeFault(code, name, given) {
-  const letters = FORMS.get(name)?.letters ?? "";
-  const k = given.findIndex((it, j) => it < partOf(letters[j]).low || it > partOf(letters[j]).high);
-  if (k === -1) throw new AgcError(code);
-  const { name: what, digits, low, high } = partOf(letters[k]);
-  const [is, least, most] = [given[k], low, high].map((it) => it.toString(digits === 0 ? 10 : 8));
-  throw new AgcError(code, `${what} is ${is}${digits === 0 ? "" : " (octal)"}, and may be ${least} to ${most}`);
-}
-
 const NAMES = [...FORMS.keys()];
 
-/**
- * Reads a line of one of these kinds into the place for a request, by the call that reads such lines.
- * @param {Function} call @param {string} line @param {string[]} kinds @param {string} [where]
- */
-function read(call, line, kinds, where = "") {
-  if (typeof line !== "string") throw new TypeError(`${where}a line has to be a string, and this is ${shown(line)}`);
-  if (call(to.text, put(line), to.request) === Code.OK && kinds.includes(NAMES[numbers[at.request / 4]])) return;
-  throw new AgcError(Code.NOT_SPELLED, `${where}${JSON.stringify(line)}: ${lineFault(line, kinds)}`);
+/** A number of a request, for which this letter stands. @param {string} letter @param {any} given */
+function numberOf(letter, given) {
+  const { name, low, high, digits } = partOf(letter);
+  return integer(name, given, low, high, letter === "W" ? Code.NOT_A_WORD : Code.OUT_OF_RANGE, digits);
 }
 
 /**
- * The kind and the numbers of a line, as `read` reads it.
- * @param {Function} call @param {string} line @param {string[]} kinds @param {string} where
+ * Reads a line of one of these kinds into the place for a request: its kind and its numbers.
+ * @param {any} line @param {string[]} kinds @param {string} [what]
  */
-function lineOf(call, line, kinds, where) {
-  read(call, line, kinds, where);
+function read(line, kinds, what = "") {
+  if (typeof line !== "string") throw wrong(what || "request", "a string", line);
+  const call = kinds === ACTION_KINDS ? calls.agc_read_action : calls.agc_read_request;
+  if (call(to.text, put(line), to.request) !== Code.OK || !kinds.includes(NAMES[numbers[at.request / 4]])) {
+    throw new AgcError(Code.NOT_SPELLED, `${what && `${what}: `}${shown(line)}: ${lineFault(line, kinds)}`);
+  }
   return numbersAt(at.request, 4);
-}
-
-/** The actions of a list, one line or several. @param {string | readonly string[]} given @param {string} where */
-function actionsOf(given, where) {
-  return [given].flat().map((line, k) =>
-    lineOf(calls.agc_read_action, line, ACTION_KINDS, `${where}, action ${k + 1}: `));
-}
-
-/** The numbers of a plan's row. @param {PlanTask} it @param {number} k */
-function rowOf(it, k) {
-  const what = `task ${k + 1} of the plan`;
-  hasKeys(what, it, "namedTask");
-  const row = [octal(it.at), octal(it.bank), ...actionsOf(it.action, what).flat()];
-  return [...row, ...new Array(LAYOUT.AgcRow.size / 4 - row.length).fill(0)];
-}
-
-/** The numbers of a plan's entry. @param {PlanPhase} it @param {number} k */
-function entryOf(it, k) {
-  const what = `phase ${k + 1} of the plan`;
-  hasKeys(what, it, "namedPhase");
-  const none = [0, 0, 0, 0];
-  const job = it.job === undefined ? none : lineOf(calls.agc_read_action, it.job, JOB_KINDS, `${what}, job: `);
-  const task = it.task === undefined ? none : lineOf(calls.agc_read_action, it.task, LISTING_KINDS, `${what}, task: `);
-  return [whole(it.group), whole(it.phase), ...job, ...task.slice(1)];
 }
 
 /** A plan's rows and entries in the module's memory. */
 class LentPlan {
   /** @param {Plan} plan */
   constructor(plan) {
-    known("a plan", plan, DOCUMENT);
-    const rows = rowsOf("task", plan.task).map(rowOf);
-    const entries = rowsOf("phase", plan.phase).map(entryOf);
-    /** The plan as it was given. */
-    this.given = structuredClone({ task: plan.task ?? [], phase: plan.phase ?? [] });
+    const { says, kept } = partsOf("a plan", plan, PLANS);
+    const rows = (says.task ?? []).map((/** @type {any} */ it) => {
+      const row = [it.at, it.bank, ...it.action.flat()];
+      return [...row, ...new Array(LAYOUT.AgcRow.size / 4 - row.length).fill(0)];
+    });
+    // (a task's first number is its delay)
+    const entries = (says.phase ?? []).map((/** @type {any} */ { group, phase, job = [0, 0, 0, 0], task = [0, 0, 0, 0] }) =>
+      [group, phase, ...job, ...task.slice(1)]);
+    this.given = kept;
     const place = lend(this, PLAN.rows, [rows, entries]);
     look(calls.agc_plan_check, place, { task: PLAN.row_count, phase: PLAN.entry_count });
     this.lent = BigInt(place);
@@ -525,36 +566,31 @@ export class Machine {
     known("a machine", given, ["sets", "plan", "power", "words"]);
     isStarted();
     const { sets, plan = {}, power, words } = given;
-    inRange("a machine", { sets }, "bench", Code.NO_SUCH_SETS);
-    this.#sets = sets ?? setsOf(words ?? []);
+    if (words !== undefined && power !== undefined) throw new TypeError("a machine begins with words or with power, and not with both");
+    const found = words === undefined ? [] : wordsOf("words", words, sets);
+    this.#sets = valueOf("a machine", "bench", "sets", sets) ?? setsOf(found);
     this.#plan = plan instanceof LentPlan ? plan : new LentPlan(plan);
     this.#place = roomFor(this, 4 * WORDS);
     [this.#words, this.#moment] = [BigInt(this.#place), BigInt(this.#place + 2 * WORDS)];
     if (words !== undefined) {
-      this.#take(counted(words, sizeOf(this.#sets)));
+      this.#take(found);
     } else if (power === undefined) {
       served(calls.agc_clear(this.#words, this.#sets));
     } else {
-      this.#powerUp(counted(power, PHASE_WORDS));
+      halves.set(valueOf("a machine", "bench", "power", power), at.phases / 2);
+      calls.agc_power_up(to.answer, this.#words, this.#sets, ...this.#plan.entries, to.phases);
+      served(numbers[at.answer / 4]);
     }
     bytes.copyWithin(this.#place + 2 * WORDS, this.#place, this.#place + 2 * WORDS);
   }
 
   /** Begins with words from elsewhere: whether a step may be asked on them is tried first. @param {number[]} found */
   #take(found) {
-    halves.set(found, this.#place / 2);
+    putWords(found, this.#place);
     this.#spell("change", []);
     this.#step(calls.agc_step);
-    // (a step that isn't served leaves the words)
-    lawful(numbers[at.answer / 4], this.#words, this.#sets);
-    halves.set(found, this.#place / 2);
-  }
-
-  /** @param {number[]} found */
-  #powerUp(found) {
-    halves.set(found, at.phases / 2);
-    calls.agc_power_up(to.answer, this.#words, this.#sets, ...this.#plan.entries, to.phases);
-    served(numbers[at.answer / 4]);
+    lawful("words", numbers[at.answer / 4], found, this.#sets);
+    putWords(found, this.#place);
   }
 
   /**
@@ -562,15 +598,19 @@ export class Machine {
    * @param {string} request @param {number[]} given
    */
   #spell(request, given) {
+    if (typeof request !== "string") throw wrong("request", "a string", request);
     const form = FORMS.get(request);
     if (form !== undefined && form.letters.length === given.length && form.kind !== 0) {
       const place = at.request / 4;
       numbers[place] = form.kind;
-      for (let k = 0; k < given.length; k++) numbers[place + 1 + k] = whole(given[k]);
+      for (let k = 0; k < given.length; k++) {
+        numbers[place + 1 + k] = given[k] >>> 0 === given[k] ? given[k] : numberOf(form.letters[k], given[k]);
+      }
     } else if (given.length === 0) {
-      read(calls.agc_read_request, request, REQUEST_KINDS);
+      read(request, REQUEST_KINDS);
     } else {
-      throw new AgcError(Code.NOT_SPELLED, `${shown(request)}: no request of this name has ${given.length} numbers`);
+      const has = form === undefined || form.kind === 0 ? "" : `; it has the form "${[request, ...form.letters].join(" ")}"`;
+      throw new AgcError(Code.NOT_SPELLED, `${shown(request)}: no request of this name has ${given.length} numbers${has}`);
     }
   }
 
@@ -591,7 +631,11 @@ export class Machine {
     if (request instanceof Asked) this.#spell(request.name, request.numbers);
     else this.#spell(request, given);
     this.#step(calls.agc_step_trusted);
-    if (numbers[at.answer / 4] !== Code.OK) rangeFault(numbers[at.answer / 4], request.toString(), given);
+    const code = numbers[at.answer / 4];
+    if (code !== Code.OK) {
+      given.forEach((it, k) => numberOf(FORMS.get(request.toString())?.letters[k] ?? "", it));
+      throw new AgcError(code);
+    }
     this.#count();
     return stepAt();
   }
@@ -615,11 +659,9 @@ export class Machine {
    * @returns {number}
    */
   run(clock, centiseconds, row) {
-    isOf(Clock, "what a machine runs by", clock);
-    if (centiseconds < 0) {
-      throw new AgcError(Code.OUT_OF_RANGE, `time can't go back, by ${centiseconds} centiseconds`);
-    }
-    const end = clock.time + whole(centiseconds);
+    isOf(Clock, "clock", clock);
+    if (row !== undefined && typeof row !== "function") throw wrong("row", "a function", row);
+    const end = clock.time + integer("centiseconds", centiseconds);
     for (let count = 0; ; count++) {
       if (!clock.give(this.#words, this.#sets, end)) return count;
       const request = row && askedAt();
@@ -675,25 +717,26 @@ export class Machine {
     return sceneAt(this.#words, this.#sets);
   }
 
-  /** All of it, of which JSON can be made, for `Machine.of`. @returns {MachineState} */
+  /** All of it, of which JSON can be made, for `Machine.ofState`. @returns {MachineState} */
   get state() {
-    const plan = structuredClone(this.#plan.given);
     const [words, moment] = [Array.from(this.words), Array.from(this.moment)];
-    return { sets: this.#sets, plan, words, moment, totals: this.totals };
+    return { sets: this.#sets, plan: structuredClone(this.#plan.given), words, moment, totals: this.totals };
+  }
+
+  /** What JSON has of it. */
+  toJSON() {
+    return this.state;
   }
 
   /** A machine of what `state` told. Its words are looked at as those from elsewhere are. @param {MachineState} state */
-  static of(state) {
+  static ofState(state) {
     const keys = ["sets", "plan", "words", "moment", "totals"];
     known("a machine's state", state, keys, keys);
     const made = new Machine({ sets: state.sets, plan: state.plan, words: state.words });
-    const { served: count, alarms, restarts } = state.totals;
-    if ([count, ...alarms, restarts].some((it) => !(Number.isSafeInteger(it) && it >= 0))) {
-      throw new AgcError(Code.OUT_OF_RANGE, "a count has to be an integer, 0 or more");
-    }
-    checked(state.moment, made.#sets);
-    halves.set(state.moment, made.#place / 2 + WORDS);
-    made.#totals = { served: count, alarms: [...alarms], restarts };
+    made.#totals = totalsOf(state.totals);
+    const moment = wordsOf("moment", state.moment, made.#sets);
+    checked("moment", moment, made.#sets);
+    putWords(moment, made.#place + 2 * WORDS);
     return made;
   }
 
@@ -758,6 +801,16 @@ function askedAt() {
 }
 
 const BOUNDS = ["served", "allowance", "logged", "limit"];
+const TOTALS = ["served", "alarms", "restarts"];
+
+/** The totals of a state; a version before wrote a list of them. @param {any} given @returns {Totals} */
+function totalsOf(given) {
+  const found = Array.isArray(given) ? Object.fromEntries(given.map((it, k) => [TOTALS[k], it])) : given;
+  known("totals", found, TOTALS, TOTALS);
+  const count = (/** @type {string} */ what, /** @type {any} */ it) => integer(`totals: ${what}`, it, 0, Number.MAX_SAFE_INTEGER);
+  const alarms = items("totals: alarms", found.alarms, "counts", 3, 3).map((it, k) => count(`alarms ${k + 1}`, it));
+  return { served: count("served", found.served), alarms, restarts: count("restarts", found.restarts) };
+}
 
 /**
  * Whether a request is served, with these counts before it: `Code.OK`, `Code.SPENT`, or
@@ -769,13 +822,12 @@ const BOUNDS = ["served", "allowance", "logged", "limit"];
  */
 export function refusalOf(request, bounds) {
   isStarted();
-  known("the bounds", bounds, BOUNDS, BOUNDS);
-  read(calls.agc_read_request, request, REQUEST_KINDS);
+  known("bounds", bounds, BOUNDS, BOUNDS);
+  read(request, REQUEST_KINDS);
   const counts = new DataView(calls.memory.buffer, at.bounds);
   BOUNDS.forEach((name, k) => {
     const it = Reflect.get(bounds, name);
-    const isWhole = typeof it === "bigint" || Number.isInteger(it);
-    if (!(isWhole && it >= 0 && it < 2 ** (k < 2 ? 64 : 32))) throw new AgcError(Code.OUT_OF_RANGE, `${name} can't be ${it}`);
+    integer(`bounds: ${name}`, it, 0, k < 2 ? 2n ** 64n - 1n : MOST);
     if (k < 2) counts.setBigUint64(8 * k, BigInt(it), true);
     else counts.setUint32(8 + 4 * k, Number(it), true);
   });
@@ -791,146 +843,89 @@ export function refusalOf(request, bounds) {
  */
 export function pulseOf(line, plan = {}) {
   isStarted();
+  if (!DEVICES.includes(line)) {
+    throw new AgcError(Code.OUT_OF_RANGE, `line is ${shown(line)}, and may be ${DEVICES.slice(0, -1).join(", ")} or ${DEVICES.at(-1)}`);
+  }
   known("a plan of pulses", plan, DOCUMENT);
-  const some = (/** @type {string | readonly string[] | undefined} */ it) => (it === undefined || it.length === 0 ? undefined : it);
-  inRange("a pulse", { key: some(plan.key), radar: some(plan.radar) }, "bench", Code.PLAN_RANGE);
-  const [key, radar] = [actionsOf(plan.key ?? [], "key"), actionsOf(plan.radar ?? [], "radar")];
+  const [key, radar] = [plan.key, plan.radar].map((it, k) =>
+    (it?.length === 0 && it !== "" ? [] : valueOf("a pulse", "bench", k === 0 ? "key" : "radar", it) ?? []));
   numbers.set([...key, ...radar].flat(), at.actions / 4);
   const second = to.actions + BigInt(REQUEST.size * key.length);
-  if (!DEVICES.includes(line)) {
-    throw new AgcError(Code.OUT_OF_RANGE, `a line is ${DEVICES.slice(0, -1).join(", ")} or ${DEVICES.at(-1)}, and not ${shown(line)}`);
-  }
   calls.agc_pulse(to.answer, DEVICES.indexOf(line), to.actions, BigInt(key.length), second, BigInt(radar.length), to.pulse);
   served(numbers[at.answer / 4]);
   return Array.from({ length: numbers[at.answer / 4 + 1] }, (_, k) => requestAt(at.pulse + REQUEST.size * k, null).text);
 }
 
-const LAST_TIME = Number(KEYS.event.at.high);
-
-/** How many centiseconds so many seconds are. @param {number} seconds */
-function centiseconds(seconds) {
-  const found = Math.round(100 * Number(seconds));
-  if (!(Math.abs(100 * seconds - found) < 1e-6)) {
-    throw new AgcError(Code.TIME_RANGE, `seconds has to be whole centiseconds, and is ${seconds}`);
-  }
-  if (found >= 0 && found <= LAST_TIME) return found;
-  throw new AgcError(Code.TIME_RANGE, `a timetable lasts at most ${LAST_TIME / 100} seconds, and this ${seconds}`);
+/** The last time of what comes again, which counts from another. @param {number | undefined} until @param {number} [from] */
+function untilOf(until, from = 0) {
+  return until === undefined ? LAST_TIME : Math.min(from + until, LAST_TIME);
 }
 
-/**
- * After how many centiseconds a row comes again, 0 where it doesn't, and the last time at which it may.
- * @param {{ every?: number, until?: number }} row
- */
-function again(row) {
-  return [whole(row.every ?? 0), whole(row.until ?? LAST_TIME)];
-}
-
-/** The rows of stolen time: a percentage, or a list of tables. @param {number | readonly Stolen[]} steal */
-function stolenOf(steal) {
-  if (!Array.isArray(steal)) {
-    inRange("a timetable", { steal }, "scenario", Code.TIME_RANGE);
-    return steal === 0 ? [] : [[0, MOST, whole(Number(steal)), 0, LAST_TIME]];
-  }
-  return steal.map((it, k) => {
-    hasKeys(`steal ${k + 1}`, it, "steal");
-    return [whole(it.from), whole(it.to), whole(it.percent), ...again(it)];
+/** The rows of stolen time, of a percentage or of its tables. @param {any} steal */
+function stolenOf(steal = 0) {
+  if (typeof steal === "number") return steal === 0 ? [] : [[0, MOST, steal, 0, LAST_TIME]];
+  return steal.map((/** @type {any} */ { from, to, percent, every, until }, /** @type {number} */ k) => {
+    if (every >= to - from || every === undefined) return [from, to, percent, every ?? 0, untilOf(until)];
+    const least = `as long as the row lasts, ${to - from}, or longer`;
+    throw new AgcError(TIME_RANGE, `steal ${k + 1}: every is ${every}, and has to be ${least}`);
   });
-}
-
-/** The least and the most that a job costs, in centiseconds. @param {string} where @param {JobCost["cost"]} cost */
-function costsOf(where, cost) {
-  if (typeof cost !== "object") return [whole(cost), whole(cost)];
-  hasKeys(`${where}: cost`, cost, "cost");
-  const [least, most] = [whole(cost.from), whole(cost.to)];
-  if (least <= most) return [least, most];
-  const told = `from one number to as much or more, and not from ${least} to ${most}`;
-  throw new AgcError(Code.TIME_RANGE, `${where}: a cost is ${told}`);
 }
 
 /**
  * What a job costs, whose requests before it leaves are put to the others.
- * @param {JobCost} it @param {number} k @param {number[][]} requests
+ * @param {any} it @param {number} k @param {number[][]} requests
  */
-function costOf(it, k, requests) {
-  const job = `job ${k + 1}`;
-  hasKeys(job, it, "job");
-  const lines = [it.then ?? "end"].flat();
-  const [first, where] = [requests.length, `${job}, then: `];
-  requests.push(...lines.slice(0, -1).map((line) => lineOf(calls.agc_read_request, line, STEP_KINDS, where)));
+function costOf({ at, cost, then = [[0, 0]] }, k, requests) {
+  const { from, to } = typeof cost === "number" ? { from: cost, to: cost } : cost;
+  if (from > to) throw new AgcError(TIME_RANGE, `job ${k + 1}: cost: to is ${to}, and may not be less than from, ${from}`);
+  const first = requests.length;
+  requests.push(...then.slice(0, -1));
   // (of an end the address is 0)
-  const [, leaves] = lineOf(calls.agc_read_request, lines[lines.length - 1], LEAVING_KINDS, where);
-  const [low, high] = costsOf(job, it.cost);
-  return [octal(it.at), whole(100 * high), leaves, first, lines.length - 1, whole(100 * (high - low))];
+  return [at, 100 * to, then.at(-1)[1], first, then.length - 1, 100 * (to - from)];
 }
-
-/** From what an event counts: the start, or the first alarm of this code. @param {string} [code] */
-function baseOf(code) {
-  return { alarm: parseInt(code ?? "0", 8), from: 0 };
-}
-
-const ALARMS = new Map(["1201", "1202", "1203"].map((code) => [code, baseOf(code)]));
 
 /**
- * Events, each with the alarm from whose first it counts, 0 for the start: one with `after` counts
- * from the first time of an event of that name above it, or else from the alarm of that code. One
- * that would come after a day never comes.
- * @param {readonly TimedEvent[]} events
+ * The rows of events, whose requests are put to the others. One with `after` counts from the first time of an event of that
+ * name above it, or else from the alarm of that code. One that would come after a day never comes.
+ * @param {any[]} events @param {number[][]} requests
  */
-function placed(events) {
+function eventsOf(events, requests) {
   const firsts = new Map();
-  return events.map((it, k) => {
-    hasKeys(`event ${k + 1}`, it, "event");
-    const { after, name } = it;
-    const base = after === undefined ? baseOf() : firsts.get(after) ?? ALARMS.get(after);
-    if (base === undefined) {
-      throw new AgcError(Code.TIME_RANGE, `event ${k + 1}: no event above it is called ${JSON.stringify(after)}`);
-    }
+  return events.map(({ name, at, after, every = 0, until, do: lines }, k) => {
+    const base = after === undefined ? { alarm: 0, from: 0 } : firsts.get(after) ?? ALARMS.get(after);
+    if (base === undefined) throw new AgcError(TIME_RANGE, `event ${k + 1}: no event above it is called ${shown(after)}`);
     const { alarm, from } = base;
-    const first = Math.max(alarm && 1, Math.min(from + whole(it.at), LAST_TIME + 1));
+    const first = Math.max(alarm && 1, Math.min(from + at, LAST_TIME + 1));
     if (name !== undefined && !firsts.has(name)) firsts.set(name, { alarm, from: first });
-    if (after === undefined) return { ...it, alarm };
-    const until = it.until === undefined ? {} : { until: Math.min(from + whole(it.until), LAST_TIME) };
-    const never = first > LAST_TIME ? { every: 1, until: 0 } : {};
-    return { ...it, alarm, at: Math.min(first, LAST_TIME), ...until, ...never };
+    const again = first > LAST_TIME ? [1, 0] : [every, untilOf(until, from)];
+    requests.push(...lines);
+    return [Math.min(first, LAST_TIME), ...again, requests.length - lines.length, lines.length, alarm];
   });
 }
 
+const ALARMS = new Map(["1201", "1202", "1203"].map((code) => [code, { alarm: parseInt(code, 8), from: 0 }]));
+
 /** A timetable in the module's memory: its events as they are at the start. */
 class LentTimes {
-  /** @param {Timetable} given */
-  constructor(given) {
-    known("a timetable", given, DOCUMENT);
-    this.lasts = centiseconds(given.seconds ?? LAST_TIME / 100);
+  /** @param {Timetable} timetable */
+  constructor(timetable) {
+    const { says: { seconds = LAST_TIME, seed, steal, job = [], event = [] }, kept } = partsOf("a timetable", timetable, TIMES);
+    this.lasts = seconds;
+    /** @type {Timetable} */
+    this.given = kept;
     /** @type {number[][]} */
     const requests = [];
-    const stolen = stolenOf(given.steal ?? 0);
-    const costs = rowsOf("job", given.job).map((it, k) => costOf(it, k, requests));
-    this.events = placed(rowsOf("event", given.event)).map((it, k) => {
-      const [lines, first, where] = [[it.do].flat(), requests.length, `event ${k + 1}, do: `];
-      requests.push(...lines.map((line) => lineOf(calls.agc_read_request, line, REQUEST_KINDS, where)));
-      return [whole(it.at), ...again(it), first, lines.length, it.alarm];
-    });
+    const stolen = stolenOf(steal);
+    const costs = job.map((/** @type {any} */ it, /** @type {number} */ k) => costOf(it, k, requests));
+    this.events = eventsOf(event, requests);
+    const byLot = costs.findIndex((/** @type {number[]} */ it) => it[5] !== 0);
+    if (seed === undefined && byLot !== -1) {
+      throw new AgcError(TIME_RANGE, `job ${byLot + 1}: its cost is by lot, and there is no seed`);
+    }
+    this.seed = seed ?? 0;
     this.place = lend(this, TABLE.stolen, [stolen, costs, this.events, requests]);
     look(calls.agc_clock_check, this.place, { steal: TABLE.stolen_count, job: TABLE.cost_count, event: TABLE.event_count });
-    this.seed = this.#seedOf(given.seed, costs.findIndex((it) => it[5] !== 0));
   }
-
-  /** What lots are drawn from; 0 where none are. @param {number | undefined} seed @param {number} byLot */
-  #seedOf(seed, byLot) {
-    if (seed === undefined && byLot === -1) return 0;
-    if (seed === undefined) {
-      throw new AgcError(Code.TIME_RANGE, `job ${byLot + 1}: its cost is by lot, and there is no seed`);
-    }
-    inRange("a timetable", { seed }, "scenario", Code.TIME_RANGE);
-    return seed;
-  }
-}
-
-/** A timetable's own keys, of which what is given later changes nothing. @param {Timetable} given @returns {Timetable} */
-function timesOf(given) {
-  known("a timetable", given, DOCUMENT);
-  const named = TIMES.filter((it) => Reflect.get(given, it) !== undefined);
-  return structuredClone(Object.fromEntries(named.map((it) => [it, Reflect.get(given, it)])));
 }
 
 /**
@@ -940,8 +935,6 @@ function timesOf(given) {
  * `seed`, 1 to 2147483646. A clock goes with one machine, and is told of all that this is asked.
  */
 export class Clock {
-  /** @type {Timetable} */
-  #told;
   /** @type {LentTimes} */
   #times;
   /** When the first alarm of each code came. @type {Record<string, number>} */
@@ -955,9 +948,7 @@ export class Clock {
   constructor(timetable = {}) {
     isStarted();
     // (a copy's is looked at already)
-    const looked = timetable instanceof LentTimes;
-    this.#told = looked ? {} : timesOf(timetable);
-    this.#times = looked ? timetable : new LentTimes(timetable);
+    this.#times = timetable instanceof LentTimes ? timetable : new LentTimes(timetable);
     this.#enter({});
     bytes.fill(0, this.#place, this.#place + CLOCK.size);
     numbers[(this.#place + CLOCK.lot) / 4] = this.#times.seed;
@@ -995,31 +986,38 @@ export class Clock {
     this.#times.events.forEach((_, k) => calls.agc_clock_told(to.answer, clock, BigInt(place + EVENT.size * k)));
   }
 
-  /** All of it, of which JSON can be made, for `Clock.of`. @returns {ClockState} */
+  /** All of it, of which JSON can be made, for `Clock.ofState`. @returns {ClockState} */
   get state() {
     const numbersOf = (/** @type {number[]} */ ...fields) => fields.map((it) => numbers[(this.#place + it) / 4]);
     const looks = bytes[this.#place + CLOCK.looks];
     const at = [...numbersOf(CLOCK.time, CLOCK.event, CLOCK.asked), looks, ...numbersOf(CLOCK.left), ...this.given,
       ...numbersOf(CLOCK.lot)];
-    return { timetable: structuredClone(this.#told), at, alarms: { ...this.#alarms } };
+    return { timetable: structuredClone(this.#times.given), at, alarms: { ...this.#alarms } };
+  }
+
+  /** What JSON has of it. */
+  toJSON() {
+    return this.state;
+  }
+
+  /** Where it is, and how many jobs and events its timetable has. */
+  toString() {
+    const { job = [], event = [] } = this.#times.given;
+    return `<Clock: ${this.time} of ${this.lasts} centiseconds; jobs: ${job.length}, events: ${event.length}>`;
   }
 
   /** A clock of what `state` told. @param {ClockState} state */
-  static of(state) {
+  static ofState(state) {
     known("a clock's state", state, ["timetable", "at", "alarms"], ["timetable", "at"]);
     const made = new Clock(state.timetable);
     const { alarms = {} } = state;
-    known("a clock's alarms", alarms, [...ALARMS.keys()]);
-    if (!Object.values(alarms).every((it) => it >>> 0 === it && it <= LAST_TIME)) {
-      throw new AgcError(Code.TIME_RANGE, "an alarm comes at a centisecond of the first day");
-    }
+    known("alarms", alarms, [...ALARMS.keys()]);
+    Object.entries(alarms).forEach(([code, it]) => integer(`alarms: ${code}`, it, 0, LAST_TIME, TIME_RANGE));
     made.#enter(/** @type {Record<string, number>} */ (alarms));
-    const [time, event, asks, looks, left, ...given] = rowsOf("at", state.at);
-    if (given.length !== 9 || looks > 1 || state.at.some((it) => !(it >>> 0 === it))) {
-      throw new AgcError(Code.OUT_OF_RANGE, "a clock's state has fourteen numbers of 32 bits");
-    }
-    for (const [field, ...all] of [[CLOCK.time, time], [CLOCK.event, event], [CLOCK.asked, asks], [CLOCK.looks, looks],
-      [CLOCK.left, left], [CLOCK.given, ...given]]) numbers.set(all, (made.#place + field) / 4);
+    const given = items("at", state.at, "numbers", 14, 14);
+    given.forEach((it, k) => integer(`at: number ${k + 1}`, it, 0, k === 3 ? 1 : MOST));
+    [CLOCK.time, CLOCK.event, CLOCK.asked, CLOCK.looks, CLOCK.left].forEach((field, k) => { numbers[(made.#place + field) / 4] = given[k]; });
+    numbers.set(given.slice(5), (made.#place + CLOCK.given) / 4);
     return made;
   }
 
@@ -1050,14 +1048,14 @@ export class Clock {
    * @returns {Asked | null}
    */
   next(machine) {
-    isOf(Machine, "what a clock is for", machine);
+    isOf(Machine, "machine", machine);
     return machine.next(this);
   }
 
   /** Tells what came of a request, also of one that the clock didn't give. @param {Machine} machine @param {Step} step */
   served(machine, step) {
-    isOf(Machine, "what a clock is for", machine);
-    isOf(Step, "what came of a request", step);
+    isOf(Machine, "machine", machine);
+    isOf(Step, "step", step);
     machine.tell(this, step);
   }
 
@@ -1086,8 +1084,9 @@ export class Clock {
 
   /** Another timetable from here on, of which what isn't named stays as it was. @param {Timetable} timetable */
   change(timetable) {
-    const told = { ...this.#told, ...timesOf(timetable) };
-    [this.#times, this.#told] = [new LentTimes(told), told];
+    known("a timetable", timetable, DOCUMENT);
+    const named = TIMES.filter((it) => Reflect.get(timetable, it) !== undefined);
+    this.#times = new LentTimes({ ...this.#times.given, ...Object.fromEntries(named.map((it) => [it, Reflect.get(timetable, it)])) });
     this.#enter(this.#alarms);
     // (lots are drawn anew where a seed is named)
     if (timetable.seed !== undefined) numbers[(this.#place + CLOCK.lot) / 4] = this.#times.seed;
@@ -1096,15 +1095,15 @@ export class Clock {
   /** A clock of its own with the same time, counts and timetable. */
   copy() {
     const made = new Clock(/** @type {any} */ (this.#times));
-    [made.#told, made.#alarms] = [this.#told, this.#alarms];
+    made.#alarms = this.#alarms;
     bytes.copyWithin(made.#place, this.#place, this.#place + CLOCK.size + EVENT.size * this.#times.events.length);
     return made;
   }
 }
 
-/** How many core sets these words have. @param {ArrayLike<any>} words */
+/** How many core sets these words have. @param {number[]} words */
 function setsOf(words) {
-  return listOf(words).length === WORDS ? NUMBERS.MOST_SETS : NUMBERS.MOST_SETS - 1;
+  return words.length === WORDS ? NUMBERS.MOST_SETS : NUMBERS.MOST_SETS - 1;
 }
 
 /** How many words there are with so many core sets. @param {number} sets */
@@ -1112,31 +1111,34 @@ function sizeOf(sets) {
   return sets === NUMBERS.MOST_SETS ? WORDS : NUMBERS.LAST_SET;
 }
 
-/** Words from outside. @param {any} words @returns {ArrayLike<any>} */
-function listOf(words) {
-  if (words instanceof Object) return words;
-  throw new TypeError(`the words have to be an array, and this is ${shown(words)}`);
-}
-
-/** So many numbers of sixteen bits. @param {ArrayLike<number | string>} words @param {number} size */
-function counted(words, size) {
-  isStarted();
-  const found = Array.from(listOf(words), octal);
-  if (found.length !== size) {
-    throw new AgcError(Code.NOT_WORDS, `there have to be ${size} words, and these are ${found.length}`);
-  }
-  if (found.some((it) => it > 0xffff)) throw new AgcError(Code.NOT_WORDS);
-  return found;
-}
-
 /**
- * Throws where these aren't lawful words, as many as there are with so many core sets.
- * @param {ArrayLike<number>} words @param {number} sets
+ * Words from outside, as many as there are with so many core sets; a rule says of each number whether it is a word.
+ * @param {string} what @param {any} words @param {number} [sets] @returns {number[]}
  */
-function checked(words, sets) {
-  halves.set(counted(words, sizeOf(sets)), at.other / 2);
+function wordsOf(what, words, sets) {
+  isStarted();
+  const sizes = sets === undefined ? [NUMBERS.LAST_SET, WORDS] : [sizeOf(sets)];
+  const found = items(what, words, "words");
+  if (!sizes.includes(found.length)) {
+    throw new AgcError(Code.NOT_WORDS, `${what}: there have to be ${sizes.join(" or ")}, and these are ${found.length}`);
+  }
+  return found.map((it, k) => {
+    if (Number.isInteger(it)) return it;
+    const one = `${what}: ${PLACES[k]} (word ${k})`;
+    return typeof it === "string" ? word(one, it, "W", Code.NOT_WORDS) : integer(one, it);
+  });
+}
+
+/** Writes words to a place. @param {number[]} words @param {number} place */
+function putWords(words, place) {
+  for (let k = 0; k < words.length; k++) halves[place / 2 + k] = words[k] >= 0 && words[k] <= 0xffff ? words[k] : 0xffff;
+}
+
+/** Throws where these aren't lawful words. @param {string} what @param {number[]} words @param {number} sets */
+function checked(what, words, sets) {
+  putWords(words, at.other);
   calls.agc_check(to.answer, to.other, sets);
-  lawful(numbers[at.answer / 4], to.other, sets);
+  lawful(what, numbers[at.answer / 4], words, sets);
 }
 
 /**
@@ -1146,46 +1148,57 @@ function checked(words, sets) {
  * @returns {string}
  */
 export function placeName(place) {
-  if (!(Number.isInteger(place) && place >= 0 && place < WORDS)) {
-    throw new AgcError(Code.OUT_OF_RANGE, `there is no word ${place}`);
-  }
-  return PLACES[place];
+  return PLACES[integer("place", place, 0, WORDS - 1)];
 }
 
 /**
- * Why words in the module's memory aren't lawful, or null.
- * @param {bigint} words @param {number} sets @returns {Finding | null}
+ * The places at which lawful words are as no request leaves them: MODE or PUSHLOC of a job isn't 0, or a gap is minus 0.
+ * @param {number[]} words
  */
-function findingAt(words, sets) {
-  calls.agc_explain(to.answer, words, sets);
-  const [code, rule, place, found, right] = numbersAt(at.answer, 5);
-  if (code !== Code.NOT_WORDS && code !== Code.UNLAWFUL) return null;
+function untidy(words) {
+  const { SET_SIZE, MODE, PUSHLOC, PRIORITY, LST1, LST2, LAST_SET } = NUMBERS;
+  return words.findIndex((it, place) => {
+    const field = place % SET_SIZE;
+    if (place >= LST1 && place < LST2) return it === MINUS_ZERO;
+    const isOfSet = (place < LST1 || place >= LAST_SET) && (field === MODE || field === PUSHLOC);
+    return isOfSet && it !== 0 && words[place - field + PRIORITY] !== MINUS_ZERO;
+  });
+}
+
+/** Why no machine begins with words, or null. @param {number[]} words @param {number} sets @returns {Finding | null} */
+function findingIn(words, sets) {
+  putWords(words, at.other);
+  calls.agc_explain(to.answer, to.other, sets);
+  const told = numbersAt(at.answer, 5);
+  const odd = told[0] === Code.OK ? untidy(words) : -1;
+  const [code, rule, place, , right] = odd === -1 ? told : [Code.UNTIDY, 0, odd, 0, 0];
+  if (code === Code.OK || code === Code.NO_SUCH_SETS) return null;
   const wanted = right === NUMBERS.ANY ? null : right;
-  const [is, would] = [found, right].map((it) => it.toString(8).padStart(5, "0"));
-  const other = wanted === null ? "" : `, and would have to be ${would}`;
-  calls.agc_write_rule(to.answer, rule, to.text, BigInt(SIZE.text));
-  return { rule, place, found, wanted, text: `${placeName(place)} (word ${place}) is ${is}${other}: ${textAt(at.answer)}` };
+  const octal = (/** @type {number} */ it) => (it < 0 ? String(it) : it.toString(8).padStart(5, "0"));
+  if (rule !== 0) calls.agc_write_rule(to.answer, rule, to.text, BigInt(SIZE.text));
+  const why = rule === 0 ? "no request leaves it so" : textAt(at.answer);
+  const other = wanted === null ? "" : `, and would have to be ${octal(wanted)}`;
+  return { code, rule, place, found: words[place], wanted, text: `${PLACES[place]} (word ${place}) is ${octal(words[place])}${other}: ${why}` };
 }
 
 /**
- * Why these words, 132 or 144, aren't lawful; null where they are.
+ * Why no machine begins with these words, 132 or 144; null where one does.
  * @param {ArrayLike<number>} words
  * @returns {Finding | null}
  */
 export function findingOf(words) {
-  const sets = setsOf(words);
-  halves.set(counted(words, sizeOf(sets)), at.other / 2);
-  return findingAt(to.other, sets);
+  const found = wordsOf("words", words);
+  return findingIn(found, setsOf(found));
 }
 
 /**
  * Throws what a call lacked that looked at words, and which word it is.
- * @param {number} code @param {bigint} words @param {number} sets
+ * @param {string} what @param {number} code @param {number[]} words @param {number} sets
  */
-function lawful(code, words, sets) {
+function lawful(what, code, words, sets) {
   if (code === Code.OK) return;
-  const finding = findingAt(words, sets);
-  throw new AgcError(code, finding === null ? codeText(code) : `${codeText(code)}: ${finding.text}`);
+  const finding = findingIn(words, sets);
+  throw new AgcError(code, finding === null ? codeText(code) : `${what}: ${finding.text}`);
 }
 
 /**
@@ -1194,9 +1207,9 @@ function lawful(code, words, sets) {
  * @returns {Scene}
  */
 export function sceneOf(words) {
-  const sets = setsOf(words);
-  checked(words, sets);
-  return sceneAt(to.other, sets);
+  const found = wordsOf("words", words);
+  checked("words", found, setsOf(found));
+  return sceneAt(to.other, setsOf(found));
 }
 
 /** The job that a call has written there, or null. @param {number} place @returns {Job | null} */
@@ -1236,4 +1249,9 @@ function sceneAt(words, sets) {
     phases: taken(bytes, place + SCENE.phases, NUMBERS.GROUPS),
     codes: numbersAt(place + SCENE.failreg, NUMBERS.CODES),
   };
+}
+
+// (what node prints of them)
+for (const it of [Machine, Clock]) {
+  Object.defineProperty(it.prototype, Symbol.for("nodejs.util.inspect.custom"), { value: it.prototype.toString });
 }

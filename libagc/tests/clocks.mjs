@@ -149,7 +149,7 @@ function keeps() {
   const [lotted, drawing] = [new Machine(), new Clock(lots)];
   lotted.run(drawing, 5);
   want(same([drawing.given[0], drawing.state.at.at(-1)], [192, 182605794]), "two lots");
-  want(same(Clock.of(drawing.state).state, drawing.state), "a clock that is kept");
+  want(same(Clock.ofState(drawing.state).state, drawing.state), "a clock that is kept");
   drawing.change({ steal: 0 });
   want(drawing.state.at.at(-1) === 182605794, "lots that go on");
   drawing.change({ seed: 7 });

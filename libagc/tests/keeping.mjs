@@ -4,10 +4,11 @@
 //     node keeping.mjs AGC_JS
 import { pathToFileURL } from "node:url";
 import { setFlagsFromString } from "node:v8";
+import { inspect } from "node:util";
 import { runInNewContext } from "node:vm";
 
 const agc = await import(pathToFileURL(process.argv[2]).href);
-const { Clock, Code, Kind, AgcError, Machine, VERSION, placeName, pulseOf, refusalOf, replyText, sceneOf } = agc;
+const { Clock, Code, Kind, AgcError, Machine, VERSION, findingOf, placeName, pulseOf, refusalOf, replyText, sceneOf } = agc;
 
 const SERVICER = {
   steal: 15,
@@ -33,13 +34,16 @@ function thrown(kind, call, told) {
 
 function timeGoesOn() {
   const [machine, clock] = [new Machine(), new Clock()];
-  thrown(AgcError, () => machine.run(clock, -1), "time can't go back, by -1 centiseconds");
-  thrown(TypeError, () => machine.run(clock, 2.5));
+  thrown(AgcError, () => machine.run(clock, -1), "centiseconds is -1, and may be 0 to 4294967295");
+  thrown(TypeError, () => machine.run(clock, 2.5), "centiseconds has to be an integer, and this is 2.5");
   want(machine.run(clock, 0) === 0 && clock.time === 0 && machine.run(clock, 3) === 3, "a run");
   want(new Clock({ seconds: 86400 }).lasts === 8640000 && new Clock({ seconds: 0.29 }).lasts === 29, "a day");
-  thrown(AgcError, () => new Clock({ seconds: 86401 }), "a timetable lasts at most 86400 seconds, and this 86401");
-  thrown(AgcError, () => new Clock({ seconds: 0.125 }), "seconds has to be whole centiseconds, and is 0.125");
-  thrown(AgcError, () => new Clock({ seconds: Number.NaN }));
+  thrown(AgcError, () => new Clock({ seconds: 86401 }), "a timetable: seconds is 86401, and may be 0 to 86400");
+  thrown(AgcError, () => new Clock({ seconds: 0.125 }), "a timetable: seconds has to be whole centiseconds, and is 0.125");
+  thrown(AgcError, () => new Clock({ seconds: Number.NaN }), "a timetable: seconds is NaN, and may be 0 to 86400");
+  for (const seconds of ["", [], true, null, "5"]) {
+    thrown(TypeError, () => new Clock({ seconds }), `a timetable: seconds has to be a number, and this is ${JSON.stringify(seconds)}`);
+  }
 }
 
 /** An event whose last time is before its first, as `agc_watch` takes it. */
@@ -77,9 +81,9 @@ function boundsRefuse() {
   }
   const bounds = { served: 0, allowance: 1, logged: 0, limit: 1 };
   thrown(AgcError, () => refusalOf("tock", bounds), '"tock": its first word is unknown; did you mean "tick"?');
-  thrown(AgcError, () => refusalOf("tick", { ...bounds, allowance: 2n ** 64n }), "allowance can't be 18446744073709551616");
-  thrown(AgcError, () => refusalOf("tick", { ...bounds, logged: -1 }), "logged can't be -1");
-  thrown(TypeError, () => refusalOf("tick", { served: 0 }), 'the bounds has to have "allowance"');
+  thrown(AgcError, () => refusalOf("tick", { ...bounds, allowance: 2n ** 64n }), "bounds: allowance is 18446744073709551616, and may be 0 to 18446744073709551615");
+  thrown(AgcError, () => refusalOf("tick", { ...bounds, logged: -1 }), "bounds: logged is -1, and may be 0 to 4294967295");
+  thrown(TypeError, () => refusalOf("tick", { served: 0 }), 'bounds has to have "allowance"');
 }
 
 /** A timer's pulse asks for a tick, the others for what the plan has done; no machine takes note of it. */
@@ -95,28 +99,27 @@ function pulsesAsk() {
   const four = new Array(4).fill("findvac 01 00001 00000");
   want(same(pulseOf("key", { key: four }), four), "four actions");
   thrown(AgcError, () => pulseOf("key", { key: [...four, "nothing"] }), "a pulse: key has to have 1 to 4 lines, and has 5");
-  thrown(AgcError, () => pulseOf("bell"), 'a line is timer, key or radar, and not "bell"');
-  thrown(AgcError, () => pulseOf("key", { key: "tick" }), 'key, action 1: "tick": an action is nothing, or begins with novac, findvac, rouse or list');
+  thrown(AgcError, () => pulseOf("bell"), 'line is "bell", and may be timer, key or radar');
+  thrown(AgcError, () => pulseOf("key", { key: "tick" }), 'a pulse: key 1: "tick": an action is nothing, or begins with novac, findvac, rouse or list');
   want(machine.ask("tick").fired.length === 1 && machine.scene().sets[0].at === 0o4000, "the machine goes on");
 }
 
 function keysAreKnown() {
   const job = { at: "04000", cost: 1 };
-  const keys = "sets, limit, allowance, attends, key, radar, power, script, task, phase, worker, device, seconds, title, seed, steal, job, event";
-  thrown(TypeError, () => new Clock({ stael: 15 }), `a timetable has no key "stael", only ${keys}`);
+  thrown(TypeError, () => new Clock({ stael: 15 }), 'a timetable has no key "stael": is it "steal"?');
   thrown(TypeError, () => new Clock().change({ stael: 15 }));
-  thrown(TypeError, () => new Clock({ job: [job, { ...job, costs: 1 }] }), 'job 2 has no key "costs", only at, cost, deadline, then, name');
+  thrown(TypeError, () => new Clock({ job: [job, { ...job, costs: 1 }] }), 'job 2 has no key "costs": is it "cost"?');
   thrown(TypeError, () => new Clock({ job: [{ at: "04000" }] }), 'job 1 has to have "cost"');
-  thrown(AgcError, () => new Clock({ job: [{ at: "04000", cost: 1, then: " end" }] }), 'job 1, then: " end": a job leaves by end or sleep');
-  thrown(TypeError, () => new Clock({ job: [{ ...job, cost: 0.5 }] }), "a number has to be an integer, and this is 0.5");
-  thrown(TypeError, () => new Clock({ job }), 'job has to be an array, and this is {"at":"04000","cost":1}');
+  thrown(AgcError, () => new Clock({ job: [{ at: "04000", cost: 1, then: " end" }] }), 'job 1: then 1: " end": a job leaves by end or sleep');
+  thrown(TypeError, () => new Clock({ job: [{ ...job, cost: 0.5 }] }), "job 1: cost has to be an integer, and this is 0.5");
+  thrown(TypeError, () => new Clock({ job }), 'a timetable: job has to be an array of objects, and this is {"at":"04000","cost":1}');
   thrown(TypeError, () => new Clock({ event: [{ do: "tick" }] }), 'event 1 has to have "at"');
   thrown(TypeError, () => new Clock({ steal: [{ from: 0, to: 9 }] }), 'steal 1 has to have "percent"');
   thrown(TypeError, () => new Clock([]), "a timetable has to be an object, and this is []");
-  thrown(TypeError, () => new Machine({ set: 7 }), 'a machine has no key "set", only sets, plan, power, words');
+  thrown(TypeError, () => new Machine({ set: 7 }), 'a machine has no key "set": is it "sets"?');
   thrown(TypeError, () => new Machine({ plan: { tasks: [] } }));
-  thrown(TypeError, () => new Machine({ plan: { task: [{ at: 1, bank: 5 }] } }), 'task 1 of the plan has to have "action"');
-  thrown(TypeError, () => new Machine({ plan: { phase: [5] } }), "phase 1 of the plan has to be an object, and this is 5");
+  thrown(TypeError, () => new Machine({ plan: { task: [{ at: 1, bank: 5 }] } }), 'task 1 has to have "action"');
+  thrown(TypeError, () => new Machine({ plan: { phase: [5] } }), "phase 1 has to be an object, and this is 5");
   // A whole scenario stands for its plan and for its timetable.
   const scenario = { title: "a landing", sets: 7, seconds: 60, ...PLAN, ...SERVICER };
   want(new Clock(scenario).lasts === 6000 && new Machine({ plan: scenario }).ask("tick").text === "tick", "a scenario");
@@ -125,17 +128,21 @@ function keysAreKnown() {
 function faultsNameTheirRow() {
   const [row, entry] = [{ at: "02000", bank: "00005", action: "nothing" }, { group: 1, phase: 1 }];
   const others = Array.from({ length: 39 }, (_, k) => ({ ...row, at: 0o2001 + k }));
-  thrown(AgcError, () => new Machine({ plan: { task: [{ ...row, at: "00000" }, row] } }), 'task 1 of the plan, at: "00000": an address is five octal digits, 00001 to 37777');
-  thrown(AgcError, () => new Machine({ plan: { task: [row, { ...row, bank: 32768 }, row] } }), "task 2 of the plan, bank: 32768: a word is five octal digits, 00000 to 77777");
+  thrown(AgcError, () => new Machine({ plan: { task: [{ ...row, at: "00000" }, row] } }), 'task 1: at: "00000": an address is five octal digits, 00001 to 37777');
+  thrown(AgcError, () => new Machine({ plan: { task: [row, { ...row, bank: 32768 }, row] } }), "task 2: bank: 32768: a word is five octal digits, 00000 to 77777");
   thrown(AgcError, () => new Machine({ plan: { task: [row, ...others, row, row] } }), "task 41: a task has two rows of the plan");
-  thrown(AgcError, () => new Machine({ plan: { task: others, phase: [entry, { ...entry, phase: 128 }] } }), "phase 2 of the plan: phase is 128, and may be 1 to 127");
+  thrown(AgcError, () => new Machine({ plan: { task: others, phase: [entry, { ...entry, phase: 128 }] } }), "phase 2: phase is 128, and may be 1 to 127");
   thrown(AgcError, () => new Machine({ sets: 9 }), "a machine: sets is 9, and may be 7 to 8");
   thrown(AgcError, () => new Clock({ steal: 101 }), "a timetable: steal is 101, and may be 0 to 100");
-  thrown(TypeError, () => new Machine({ words: null }), "the words have to be an array, and this is null");
-  thrown(TypeError, () => new Machine({ power: 3 }), "the words have to be an array, and this is 3");
-  thrown(TypeError, () => sceneOf(null), "the words have to be an array, and this is null");
+  thrown(TypeError, () => new Machine({ words: null }), "words has to be an array of words, and this is null");
+  thrown(TypeError, () => new Machine({ power: 3 }), "a machine: power has to be an array of words, and this is 3");
+  thrown(TypeError, () => sceneOf(null), "words has to be an array of words, and this is null");
   const cost = { from: 0, to: 5 };
   thrown(AgcError, () => new Clock({ seed: 1, job: [{ at: 1, cost }] }), "job 1: cost: from is 0, and may be 1 to 1000000");
+  thrown(AgcError, () => new Clock({ seed: 1, job: [{ at: 1, cost: { from: 3, to: 2 } }] }), "job 1: cost: to is 2, and may not be less than from, 3");
+  thrown(AgcError, () => new Clock({ job: [{ at: 1, cost: { from: 2, to: 3 } }] }), "job 1: its cost is by lot, and there is no seed");
+  const short = [{ from: 0, to: 9, percent: 1, every: 8 }];
+  thrown(AgcError, () => new Clock({ steal: short }), "steal 1: every is 8, and has to be as long as the row lasts, 9, or longer");
   const costs = [1, 2, 3, 2, 1].map((at) => ({ at, cost: 1 }));
   thrown(AgcError, () => new Clock({ job: costs }), "job 4: one address has two costs");
   const steal = [{ from: 9, to: 12, percent: 1 }, { from: 0, to: 10, percent: 1 }];
@@ -149,7 +156,28 @@ function foreignWordsHaveNoScene() {
   for (const [place, bits] of [[11, 0o1001], [89, 0o14], [129, 5], [90, 1], [3, 32768]]) {
     thrown(AgcError, () => sceneOf(words.map((it, k) => (k === place ? bits : it))));
   }
-  thrown(AgcError, () => sceneOf(words.slice(1)), "there have to be 132 words, and these are 131");
+  // A number that is no word is found as others are; what is no number isn't.
+  for (const [bits, found] of [[-1, "-1"], [65536, "200000"], [32768, "100000"]]) {
+    const told = findingOf(words.map((it, k) => (k === 3 ? bits : it)));
+    want(same([told.code, told.rule, told.place, told.found], [Code.NOT_WORDS, 1, 3, bits]), `a finding: ${JSON.stringify(told)}`);
+    want(told.text === `MPAC+3 of core set 0 (word 3) is ${found}: a word has at most fifteen bits`, told.text);
+  }
+  thrown(TypeError, () => findingOf([...words.slice(0, 131), null]), "words: FAILREG 2 (word 131) has to be an integer, and this is null");
+  thrown(AgcError, () => sceneOf(words.slice(1)), "words: there have to be 132 or 144, and these are 131");
+}
+
+/** Untidy words are lawful, but no request leaves them so: MODE or PUSHLOC of a job, or a gap of LST1 that is minus 0. */
+function untidyWordsAreTold() {
+  const machine = new Machine({ sets: 8 });
+  for (const it of ["novac 20 02000 00005", "novac 30 02000 00005", "change", "list 10 02000 00005", "list 10 02000 00005"]) machine.ask(it);
+  for (const [place, bits, name] of [[7, 1, "MODE of core set 0"], [22, 0o77777, "PUSHLOC of core set 1"], [91, 0o77777, "LST1 0"]]) {
+    const words = Array.from(machine.words, (it, k) => (k === place ? bits : it));
+    const told = `${name} (word ${place}) is ${bits.toString(8).padStart(5, "0")}, and would have to be 00000: no request leaves it so`;
+    thrown(AgcError, () => new Machine({ words }), `words: ${told}`);
+    want(findingOf(words).text === told && findingOf(words).code === Code.UNTIDY && sceneOf(words).running === 2, told);
+  }
+  // Of a free core set nothing is looked at but that it is free.
+  want(findingOf(Array.from(machine.words, (it, k) => (k === 31 ? 5 : it))) === null, "a free core set");
 }
 
 /** What is kept goes on as what was kept does, and leaves it alone. */
@@ -167,19 +195,22 @@ function areKept() {
   const wanted = goesOn(machine.copy(), clock.copy());
   want(wanted.length > 700 && machine.totals.restarts > 0, "a busy machine");
   for (const kept of [(it) => it, structuredClone, (it) => JSON.parse(JSON.stringify(it))]) {
-    const [other, own] = [Machine.of(kept(machine.state)), Clock.of(kept(clock.state))];
+    const [other, own] = [Machine.ofState(kept(machine.state)), Clock.ofState(kept(clock.state))];
     want(same(told(other, own), was) && other.sets === 8, `${kept}`);
     want(same(goesOn(other, own), wanted) && same(told(machine, clock), was), `${kept} goes on`);
   }
-  want(same(Clock.of(clock.state).state, clock.state), "a clock's state");
+  want(same(Clock.ofState(clock.state).state, clock.state), "a clock's state");
+  want(same(JSON.parse(JSON.stringify([machine, clock])), [machine.state, clock.state]), "JSON has the state");
+  const listed = Machine.ofState({ ...machine.state, totals: [5, [1, 2, 3], 6] });
+  want(same(listed.totals, { served: 5, alarms: [1, 2, 3], restarts: 6 }), "as Python's version before wrote it");
   const { state } = machine;
-  thrown(AgcError, () => Machine.of({ ...state, words: state.words.map(() => 0) }));
-  thrown(AgcError, () => Machine.of({ ...state, moment: state.moment.map(() => 0) }));
-  thrown(AgcError, () => Machine.of({ ...state, totals: { ...state.totals, served: -1 } }));
-  const many = Machine.of({ ...state, totals: { ...state.totals, served: 2 ** 40 + 5 } });
+  thrown(AgcError, () => Machine.ofState({ ...state, words: state.words.map(() => 0) }));
+  thrown(AgcError, () => Machine.ofState({ ...state, moment: state.moment.map(() => 0) }));
+  thrown(AgcError, () => Machine.ofState({ ...state, totals: { ...state.totals, served: -1 } }));
+  const many = Machine.ofState({ ...state, totals: { ...state.totals, served: 2 ** 40 + 5 } });
   want(many.report().includes("\nSERVED 1099511627781\n"), "a count above 32 bits");
-  thrown(TypeError, () => Machine.of({ sets: 8 }));
-  thrown(AgcError, () => Clock.of({ ...clock.state, at: [2 ** 32, ...new Array(12).fill(0)] }));
+  thrown(TypeError, () => Machine.ofState({ sets: 8 }));
+  thrown(AgcError, () => Clock.ofState({ ...clock.state, at: [2 ** 32, ...new Array(12).fill(0)] }));
 }
 
 /** A clock that is kept after each request goes on as one that isn't: after a tick it still looks at NEWJOB. */
@@ -193,7 +224,7 @@ function areKeptAfterEachRequest() {
   let [machine, clock] = [new Machine({ plan }), new Clock(times)];
   const one = (asked, step) => { texts.push(`${asked}: ${step}`); return false; };
   while (machine.run(clock, 20 - clock.time, one) > 0) {
-    [machine, clock] = [Machine.of(machine.state), Clock.of(clock.state)];
+    [machine, clock] = [Machine.ofState(machine.state), Clock.ofState(clock.state)];
   }
   want(same(texts, wanted) && wanted.includes("change: runs 2"), `kept after each request: ${texts}`);
   want(wanted.includes("phase 1 1: phased"), "an event that counts from an alarm");
@@ -207,7 +238,7 @@ function anAlarmMovesWhatCountsFromIt() {
   want(machine.run(clock, 4) === 4, "four ticks");
   const [other, its] = [machine.copy(), clock.copy()];
   want(machine.run(clock, 4) === 12 && same(clock.state.alarms, { 1202: 5 }) && same(its.state.alarms, {}), "an alarm");
-  const again = Clock.of(clock.state);
+  const again = Clock.ofState(clock.state);
   const changed = clock.copy();
   changed.change({ event });
   for (const [one, timer] of [[machine.copy(), again], [machine.copy(), changed], [other, its], [machine, clock]]) {
@@ -216,9 +247,9 @@ function anAlarmMovesWhatCountsFromIt() {
     want(same(found, ["15 phase 1 1", "20 phase 1 2"]), `what counts from an alarm: ${found}`);
   }
   const { alarms, ...old } = clock.state;
-  want(same(alarms, { 1202: 5 }) && same(Clock.of(old).state.alarms, {}), "a state without alarms");
-  thrown(AgcError, () => Clock.of({ ...old, alarms: { 1202: 8640001 } }));
-  thrown(TypeError, () => Clock.of({ ...old, alarms: { 1204: 1 } }));
+  want(same(alarms, { 1202: 5 }) && same(Clock.ofState(old).state.alarms, {}), "a state without alarms");
+  thrown(AgcError, () => Clock.ofState({ ...old, alarms: { 1202: 8640001 } }));
+  thrown(TypeError, () => Clock.ofState({ ...old, alarms: { 1204: 1 } }));
   thrown(AgcError, () => new Clock({ event: [{ at: 1, after: "1204", do: "tick" }] }));
 }
 
@@ -267,17 +298,37 @@ function messagesCanBeShown() {
     [() => machine.ask("tick\r"), '"tick\\r": a line ends with LF alone, not with CR LF'],
     [() => machine.ask("novac 20"), '"novac 20": it has the form "novac P A W", with single spaces'],
     [() => machine.ask("novac 20 2000 00005"), '"novac 20 2000 00005": an address is five octal digits, 00001 to 37777'],
-    [() => machine.ask("prio", 7, 8), '"prio": no request of this name has 2 numbers'],
-    [() => new Machine({ words: new Array(131).fill(0) }), "there have to be 132 words, and these are 131"],
+    [() => machine.ask("prio", 7, 8), '"prio": no request of this name has 2 numbers; it has the form "prio P"'],
+    [() => machine.ask("tick\n"), '"tick\\n": it has a line\'s end; give the line without it'],
+    [() => new Machine({ words: new Array(131).fill(0) }), "words: there have to be 132 or 144, and these are 131"],
     [() => new Machine({ plan: { task: [row] } }),
-      'task 1 of the plan, action 2: "tick": an action is nothing, or begins with novac, findvac, rouse or list'],
+      'task 1: action 2: "tick": an action is nothing, or begins with novac, findvac, rouse or list'],
   ]) thrown(AgcError, call, told);
-  thrown(TypeError, () => new Clock().next(null), "what a clock is for has to be a Machine, and this is null");
-  thrown(TypeError, () => new Clock().served(machine, "tick"), 'what came of a request has to be a Step, and this is "tick"');
-  thrown(TypeError, () => machine.run(undefined, 5), "what a machine runs by has to be a Clock, and this is undefined");
-  thrown(TypeError, () => machine.ask("novac", "20", 1, 1), 'a number has to be an integer, and this is "20"');
+  for (const [call, told] of [
+    [() => new Clock().next(null), "machine has to be a Machine, and this is null"],
+    [() => new Clock().served(machine, "tick"), 'step has to be a Step, and this is "tick"'],
+    [() => machine.run(undefined, 5), "clock has to be a Clock, and this is undefined"],
+    [() => machine.run(new Clock(), 5, "row"), 'row has to be a function, and this is "row"'],
+    [() => machine.ask("novac", "20", 1, 1), 'priority has to be an integer, and this is "20"'],
+    [() => machine.ask("store", 1, true), "word has to be an integer, and this is true"],
+    [() => machine.ask(null), "request has to be a string, and this is null"],
+    [() => refusalOf("tick", { served: 0, allowance: "1", logged: 0, limit: 1 }), 'bounds: allowance has to be an integer, and this is "1"'],
+    [() => pulseOf("key", { key: 5 }), "a pulse: key has to be an array of lines, and this is 5"],
+    [() => new Machine({ sets: "7" }), 'a machine: sets has to be an integer, and this is "7"'],
+    [() => new Machine({ power: new Array(12).fill(null) }), "a machine: power 1 has to be an integer or five octal digits, and this is null"],
+    [() => new Clock({ event: [{ at: 0, do: "tick", name: [] }] }), "event 1: name has to be a string, and this is []"],
+    [() => new Clock({ job: [{ at: true, cost: 1 }] }), "job 1: at has to be an integer or five octal digits, and this is true"],
+    [() => new Clock({ job: [{ at: 1, cost: 5n }] }), "job 1: cost has to be an integer, and this is 5"],
+    [() => new Clock({ event: [{ at: 0, do: () => "tick" }] }), "event 1: do has to be an array of lines, and this is () => \"tick\""],
+    [() => new Clock({ steal: null }), "a timetable: steal has to be an array of objects or an integer, and this is null"],
+    [() => Machine.ofState({ ...machine.state, totals: 5 }), "totals has to be an object, and this is 5"],
+    [() => placeName("x"), 'place has to be an integer, and this is "x"'],
+    [() => new Machine({ words: machine.words, power: [] }), "a machine begins with words or with power, and not with both"],
+  ]) thrown(TypeError, call, told);
   machine.ask("findvac 20 02000 00005");
   want(`${machine}` === "<Machine: job 1 runs; jobs: 1, tasks: 0, alarms: 0>" && agc.Lacking === AgcError, `${machine}`);
+  const clock = new Clock({ seconds: 2, ...SERVICER });
+  want(inspect(clock) === "<Clock: 0 of 200 centiseconds; jobs: 2, events: 2>" && inspect(machine) === `${machine}`, inspect(clock));
 }
 
 /** What is collected gives its part of the module's memory back, to others, and never what one that is there still has. */
@@ -314,6 +365,7 @@ pulsesAsk();
 keysAreKnown();
 faultsNameTheirRow();
 foreignWordsHaveNoScene();
+untidyWordsAreTold();
 areKept();
 areKeptAfterEachRequest();
 anAlarmMovesWhatCountsFromIt();

@@ -182,7 +182,7 @@ class Keeping(unittest.TestCase):
         self.raised(AgcError, lambda: agc.scene_of(words[:131]))
         self.raised(AgcError, lambda: agc.scene_of([]))
         # A number that is no word is found as others are; what is no number isn't.
-        for bits, found in [(-1, "-0001"), (65536, "200000"), (32768, "100000")]:
+        for bits, found in [(-1, "-1"), (65536, "200000"), (32768, "100000")]:
             told = agc.finding_of([*words[:3], bits, *words[4:]])
             self.assertEqual((told.code, told.rule, told.place, told.found), (Code.NOT_WORDS, 1, 3, bits))
             self.assertEqual(str(told), f"MPAC+3 of core set 0 (word 3) is {found}: a word has at most fifteen bits")
