@@ -8,7 +8,7 @@ fn main() -> Result<(), AgcError> {
         .task(0o2100, 5, &["novac 30 05000 00007", "list 100 02100 00005"])?
         .phase(5, 1, "findvac 20 04000 00007", "list 200 02000 00005")?;
     let timetable = Timetable::new(600)
-        .steal(0, 8_640_000, 15)
+        .steal(0, 8_640_000, 15)?
         .job(0o4000, 170, "end")?
         .job(0o5000, 12, "end")?
         .event(0, 0, 0, &["phase 5 1", "list 1 02000 00005"])?

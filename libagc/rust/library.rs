@@ -399,9 +399,37 @@ pub const FORMS: [(&str, &[Part]); 14] = [
     ("fresh", &[]),
 ];
 
-/// The last centisecond of a timetable, and the greatest seed.
+/// The last centisecond of a timetable.
 pub const LAST_TIME: u32 = 8640000;
-pub const LAST_SEED: u32 = 2147483646;
+
+/// The numbers of tables: table, key, least and most, and the octal digits that a message has, 0 where it is decimal.
+pub const KEYS: [(&str, &str, u32, u32, usize); 25] = [
+    ("bench", "sets", 7, 8, 0),
+    ("bench", "limit", 1, 1000000, 0),
+    ("bench", "attends", 0, 1000, 0),
+    ("bench", "power", 0, 32767, 5),
+    ("task", "at", 1, 16383, 5),
+    ("task", "bank", 0, 32767, 5),
+    ("phase", "group", 1, 6, 0),
+    ("phase", "phase", 1, 127, 0),
+    ("scenario", "seconds", 1, 86400, 0),
+    ("scenario", "seed", 1, 2147483646, 0),
+    ("scenario", "sets", 7, 8, 0),
+    ("scenario", "limit", 1, 1000000, 0),
+    ("scenario", "power", 0, 32767, 5),
+    ("scenario", "steal", 0, 100, 0),
+    ("steal", "from", 0, 8640000, 0),
+    ("steal", "to", 0, 8640000, 0),
+    ("steal", "percent", 0, 100, 0),
+    ("steal", "every", 1, 8640000, 0),
+    ("steal", "until", 0, 8640000, 0),
+    ("job", "at", 1, 16383, 5),
+    ("job", "cost", 1, 1000000, 0),
+    ("job", "deadline", 1, 8640000, 0),
+    ("event", "at", 0, 8640000, 0),
+    ("event", "every", 1, 8640000, 0),
+    ("event", "until", 0, 8640000, 0),
+];
 
 /// A list of requests, and what is wrong with a line that begins as none of them does.
 #[derive(Clone, Copy, Debug)]

@@ -18,7 +18,8 @@ struct Scenario {
 impl Scenario {
     fn new(rest: &str) -> Scenario {
         let found = numbers(rest);
-        let timetable = Some(Timetable::new(found[1]).seed(found[2]));
+        let empty = Timetable::new(found[1]);
+        let timetable = Some(if found[2] == 0 { empty } else { empty.seed(found[2]).unwrap() });
         Scenario { sets: found[0], plan: Some(Plan::new()), timetable, going: None }
     }
 
@@ -37,9 +38,10 @@ impl Scenario {
             }
             "steal" => {
                 let it = numbers(first);
-                self.timetable = self.timetable.take().map(|all| match it[3] {
-                    0 => all.steal(it[0], it[1], it[2]),
-                    every => all.steal_every(it[0], it[1], it[2], every, it[4]),
+                let all = self.timetable.take().unwrap();
+                self.timetable = Some(match it[3] {
+                    0 => all.steal(it[0], it[1], it[2])?,
+                    every => all.steal_every(it[0], it[1], it[2], every, it[4])?,
                 });
             }
             "job" => {
@@ -47,12 +49,13 @@ impl Scenario {
                 let cost = numbers(&first[6..]);
                 let (then, lines) = parts.split_last().unwrap();
                 let all = all.job_asks(octal(&first[..5]), cost[1], lines, then)?;
-                self.timetable = Some(all.at_least(cost[0]));
+                self.timetable = Some(all.at_least(cost[0])?);
             }
             "event" => {
                 let (all, it) = (self.timetable.take().unwrap(), numbers(first));
                 let all = all.event(it[0], it[1], it[2], &parts)?;
-                self.timetable = Some(all.after(octal(first.rsplit(' ').next().unwrap())));
+                let after = octal(first.rsplit(' ').next().unwrap());
+                self.timetable = Some(if after == 0 { all } else { all.after(after)? });
             }
             _ => self.go(name, rest, out)?,
         }
@@ -103,7 +106,7 @@ fn spells() -> Result<(), AgcError> {
 
 /// A job costs two centiseconds, and of each 40 percent are stolen: it has 60, 120, 180 and 200 hundredths.
 fn keeps() -> Result<(), AgcError> {
-    let timetable = Timetable::new(1).steal(0, 100, 40).job(0o4000, 2, "end")?;
+    let timetable = Timetable::new(1).steal(0, 100, 40)?.job(0o4000, 2, "end")?;
     let (mut machine, mut clock) = (Machine::new(7, Plan::new())?, Clock::new(timetable)?);
     let step = machine.ask("novac 20 04000 00005")?;
     clock.served(&machine, &step);
@@ -112,7 +115,7 @@ fn keeps() -> Result<(), AgcError> {
     let asked: Vec<u32> = machine.run(&mut clock, u32::MAX)?.iter().map(|it| it.0.request.kind).collect();
     assert_eq!((asked.len(), &asked[..2], clock.time(), clock.given()), (98, &[TICK, END][..], 100, [0; 8]));
     // The second and fourth centisecond are stolen: the third has its end.
-    let beat = Timetable::new(1).steal_every(2, 3, 100, 2, 100).job(0o4000, 2, "end")?;
+    let beat = Timetable::new(1).steal_every(2, 3, 100, 2, 100)?.job(0o4000, 2, "end")?;
     let (mut machine, mut clock) = (Machine::new(7, Plan::new())?, Clock::new(beat)?);
     let step = machine.ask("novac 20 04000 00005")?;
     clock.served(&machine, &step);
@@ -125,25 +128,25 @@ fn keeps() -> Result<(), AgcError> {
     let asked: Vec<String> = machine.run(&mut clock, 3)?.iter().map(|it| it.0.request.to_string()).collect();
     assert_eq!(asked, ["tick", "tick", "phase 1 1", "tick", "prio 07", "end"]);
     // A cost by lot has to have a seed, below the last number; the first lot of seed 1 is 48271.
-    let lots = Timetable::new(1).job(0o4000, 3, "end")?.at_least(1);
+    let lots = Timetable::new(1).job(0o4000, 3, "end")?.at_least(1)?;
     for (seed, code) in [(0, TIME_RANGE), (2_147_483_647, TIME_RANGE), (2_147_483_646, OK), (1, OK)] {
-        let found = Clock::new(lots.clone().seed(seed));
+        let found = lots.clone().seed(seed).and_then(Clock::new);
         assert_eq!(found.map_or_else(|error| error.code as u32, |_| OK), code);
     }
-    let (mut machine, mut clock) = (Machine::new(7, Plan::new())?, Clock::new(lots.seed(1))?);
+    let (mut machine, mut clock) = (Machine::new(7, Plan::new())?, Clock::new(lots.seed(1)?)?);
     let step = machine.ask("novac 20 04000 00005")?;
     clock.served(&machine, &step);
     assert_eq!((machine.run(&mut clock, 1)?.len(), clock.given()[0]), (1, 300 - 131 + 100));
     // Another timetable from here on: lots go on, unless it has another seed.
-    let other = Timetable::new(1).steal(0, 100, 50).event(3, 0, 0, &["phase 1 1"])?;
-    clock.change(other.clone().seed(1))?;
+    let other = Timetable::new(1).steal(0, 100, 50)?.event(3, 0, 0, &["phase 1 1"])?;
+    clock.change(other.clone().seed(1)?)?;
     assert_eq!((clock.time(), clock.state().clock.lot), (1, 48271));
-    clock.change(other.seed(9))?;
+    clock.change(other.seed(9)?)?;
     assert_eq!((clock.time(), clock.state().clock.lot), (1, 9));
     assert!(machine.run(&mut clock, 5)?.iter().any(|it| it.0.request.to_string() == "phase 1 1"));
     // What is kept goes on as what was kept does, also where an alarm came from which an event counts.
     let full = ["novac 20 04000 00005"; 8];
-    let timetable = Timetable::new(1).event(2, 0, 0, &full)?.event(4, 0, 0, &["phase 1 1"])?.after(0o1202);
+    let timetable = Timetable::new(1).event(2, 0, 0, &full)?.event(4, 0, 0, &["phase 1 1"])?.after(0o1202)?;
     let (mut machine, mut clock) = (Machine::new(7, Plan::new())?, Clock::new(timetable.clone())?);
     machine.run(&mut clock, 3)?;
     let mut own = Clock::of_state(&clock.state(), timetable)?;
@@ -174,18 +177,54 @@ fn asks() -> Result<(), AgcError> {
     assert_eq!(agc_pulse(RADAR, &[], &[novac; 5], &mut found), AgcNumber { code: PLAN_RANGE, number: 0 });
     assert_eq!(agc_pulse(3, &key, &key, &mut found), AgcNumber { code: OUT_OF_RANGE, number: 0 });
     let lines = |found: Vec<AgcRequest>| found.iter().map(AgcRequest::to_string).collect::<Vec<_>>();
-    assert_eq!(lines(pulse(Device::Key, &["nothing", "rouse 02100"], &[])?), ["rouse 02100"]);
-    assert_eq!(lines(pulse(Device::Timer, &[], &[])?), ["tick"]);
+    assert_eq!(lines(pulse_of(Device::Key, &["nothing", "rouse 02100"], &[])?), ["rouse 02100"]);
+    assert_eq!(lines(pulse_of(Device::Timer, &[], &[])?), ["tick"]);
     let told = |found: Result<Vec<AgcRequest>, AgcError>| found.unwrap_err().to_string();
-    assert_eq!(told(pulse(Device::Key, &["nothing"; 5], &[])), "a pulse: key has to have 1 to 4 lines, and has 5");
-    let action = r#"radar, action 2: "end": an action is nothing, or begins with novac, findvac, rouse or list"#;
-    assert_eq!(told(pulse(Device::Key, &[], &["nothing", "end"])), action);
-    assert_eq!((refusal("tick", &of(9, 5))?, refusal("restart", &of(9, 5))?), (Code::LogFull, Code::Ok));
-    assert_eq!(refusal("tock", &of(9, 5)).unwrap_err().code, Code::NotSpelled);
+    assert_eq!(told(pulse_of(Device::Key, &["nothing"; 5], &[])), "a pulse: key has to have 1 to 4 lines, and has 5");
+    let action = r#"a pulse: radar 2: "end": an action is nothing, or begins with novac, findvac, rouse or list"#;
+    assert_eq!(told(pulse_of(Device::Key, &[], &["nothing", "end"])), action);
+    assert_eq!((refusal_of("tick", &of(9, 5))?, refusal_of("restart", &of(9, 5))?), (Code::LogFull, Code::Ok));
+    assert_eq!(refusal_of("tock", &of(9, 5)).unwrap_err().code, Code::NotSpelled);
     // An event whose last time is before its first never comes.
     let never = Timetable::new(1).event(5, 2, 4, &["restart"])?;
     let (mut machine, mut clock) = (Machine::new(7, Plan::new())?, Clock::new(never)?);
     assert!(machine.run(&mut clock, 20)?.iter().all(|it| it.0.request == tick && it.0.event.is_none()));
+    Ok(())
+}
+
+/// A wrong number, line or count is named with its row, and what may stand there; and a call that is about a row before it
+/// wants one.
+fn messages() -> Result<(), AgcError> {
+    let (none, job) = (|| Timetable::new(1), Timetable::new(1).job(0o4000, 3, "end")?);
+    let event = Timetable::new(1).event(1, 0, 0, &["tick"])?;
+    for (made, told) in [
+        (none().job_asks(0o4000, 1, &["prio 07"; 8], "end"), "job 1: then has to have 1 to 8 lines, and has 9"),
+        // 2^32 hundredths and four aren't cut to four.
+        (none().job(0o4000, 42_949_673, "end"), "job 1: cost is 42949673, and may be 1 to 1000000"),
+        (job.clone().job(0, 1, "end"), "job 2: at is 0 (octal), and may be 1 to 37777"),
+        (none().job(1, 1, "tick"), r#"job 1: then 1: "tick": a job leaves by end or sleep"#),
+        (none().seed(0), "a timetable: seed is 0, and may be 1 to 2147483646"),
+        (none().seed(u32::MAX), "a timetable: seed is 4294967295, and may be 1 to 2147483646"),
+        (none().at_least(1), "at_least is about the job before it, and there is none"),
+        (job.clone().at_least(0), "job 1: at_least is 0, and may be 1 to 3"),
+        (job.clone().at_least(4), "job 1: at_least is 4, and may be 1 to 3"),
+        (job.clone().after(0o1201), "after is about the event before it, and there is none"),
+        (event.clone().after(5), "event 1: after is 5 (octal), and may be 1201 to 1203"),
+        (event.event(8_640_001, 0, 0, &["tick"]), "event 2: at is 8640001, and may be 0 to 8640000"),
+        (none().event(1, 0, 0, &[]), "event 1: do has to have 1 to 16 lines, and has 0"),
+        (none().event(1, 0, 0, &["tick", "tick\n"]), r#"event 1: do 2: "tick\n": it has a line's end; give the line without it"#),
+        (none().steal(0, 9, 101), "steal 1: percent is 101, and may be 0 to 100"),
+        (none().steal_every(0, 9, 1, 8, 0), "steal 1: every is 8, and has to be as long as the row lasts, 9, or longer"),
+    ] {
+        assert_eq!(made.unwrap_err().to_string(), told);
+    }
+    let told = |made: Timetable| Clock::new(made).unwrap_err().to_string();
+    assert_eq!(told(job.at_least(1)?), "job 1: its cost is by lot, and there is no seed");
+    assert_eq!(told(Timetable::new(86401)), "a timetable: seconds is 86401, and may be 0 to 86400");
+    let twice = none().steal(9, 12, 1)?.steal(0, 10, 1)?;
+    assert_eq!(told(twice), "steal 2: two rows of stolen time hold at one time");
+    let clock = Clock::new(Timetable::new(2).job(1, 1, "end")?)?;
+    assert_eq!(format!("{clock:?}"), "<Clock: 0 of 200 centiseconds; jobs: 1, events: 0>");
     Ok(())
 }
 
@@ -194,11 +233,7 @@ fn main() -> Result<(), AgcError> {
     assert_eq!(Clock::new(twice).unwrap_err().code, Code::CostTwice);
     assert_eq!(Timetable::new(1).job(0o4000, 1, "tick").unwrap_err().code, Code::NotSpelled);
     assert_eq!(Timetable::new(1).job_asks(0o4000, 1, &["change"], "end").unwrap_err().code, Code::NotSpelled);
-    let eight = Timetable::new(1).job_asks(0o4000, 1, &["prio 07"; 8], "end")?;
-    assert_eq!(Clock::new(eight).unwrap_err().code, Code::TimeRange);
-    // 2^32 hundredths and four, and as many centiseconds, aren't cut to four.
-    let long = Timetable::new(86400).job(0o4000, 42_949_673, "end")?;
-    assert_eq!(Clock::new(long).unwrap_err().code, Code::TimeRange);
+    messages()?;
     assert_eq!(Clock::new(Timetable::new(86401)).unwrap_err().code, Code::TimeRange);
     assert_eq!((Clock::new(Timetable::new(86400))?.lasts(), Clock::new(Timetable::new(60))?.lasts()), (8_640_000, 6000));
     assert_eq!(scene_of(&[0; 132]).unwrap_err().code, Code::Unlawful);

@@ -47,14 +47,14 @@ fn spelled(step: &Step) -> String {
 
 /// A scene as arrays alone.
 fn told(scene: &Scene) -> String {
-    let job = |it: &Option<Job>| match it {
+    let job = |it: &Option<AgcJob>| match it {
         None => "null".to_string(),
-        Some(Job { number, priority, at, bank, asleep, area, work }) => {
+        Some(AgcJob { number, priority, at, bank, asleep, area, work, .. }) => {
             format!("[{number},{priority},{at},{bank},{asleep},{area},{work:?}]")
         }
     };
     let sets: Vec<String> = scene.sets.iter().map(job).collect();
-    let tasks: Vec<[u16; 3]> = scene.tasks.iter().map(|it| [it.at, it.bank, it.left]).collect();
+    let tasks: Vec<[u32; 3]> = scene.tasks.iter().map(|it| [it.at, it.bank, it.left]).collect();
     let Scene { running, next, areas, phases, codes, .. } = scene;
     let sets = sets.join(",");
     format!("[{running},{next},[{sets}],{areas:?},{tasks:?},{phases:?},{codes:?}]").replace(' ', "")
@@ -208,14 +208,54 @@ fn messages(machine: &mut Machine) {
     assert_eq!(said(FINDVAC, 1, 1, 32768), "word is 100000 (octal), and may be 0 to 77777");
     assert_eq!(said(LIST, 16251, 1, 1), "delay is 16251, and may be 1 to 16250");
     let of = |made: Result<Plan, AgcError>| made.and_then(|it| Machine::new(7, it)).unwrap_err().to_string();
-    let action = r#"task 1, action 2: "tick": an action is nothing, or begins with novac, findvac, rouse or list"#;
+    let action = r#"task 1: action 2: "tick": an action is nothing, or begins with novac, findvac, rouse or list"#;
     assert_eq!(of(Plan::new().task(1, 1, &["nothing", "tick"])), action);
     let rows = (1..4).fold(Plan::new(), |plan, it| plan.task(it, 1, &["nothing"]).unwrap());
-    assert_eq!(of(rows.clone().task(0, 1, &["nothing"])), "task 4: address is 0 (octal), and may be 1 to 37777");
+    assert_eq!(of(rows.clone().task(0, 1, &["nothing"])), "task 4: at is 0 (octal), and may be 1 to 37777");
     assert_eq!(of(rows.clone().phase(1, 128, "", "")), "phase 1: phase is 128, and may be 1 to 127");
     assert_eq!(of(rows.phase(1, 1, "", "").unwrap().phase(1, 1, "", "")), "phase 2: a group's phase has two entries of the plan");
+    let row = |lines: &[&str]| of(Plan::new().task(1, 1, lines));
+    assert_eq!((row(&[]), row(&["nothing"; 5])), ("task 1: action has to have 1 to 4 lines, and has 0".into(), "task 1: action has to have 1 to 4 lines, and has 5".into()));
+    assert_eq!(of(Plan::new().phase(1, 1, "", "tick")), r#"phase 1: task: "tick": a task begins with list"#);
+    assert_eq!(Machine::new(9, Plan::new()).unwrap_err().to_string(), "a machine: sets is 9, and may be 7 to 8");
+    let mut power = [0; PHASE_WORDS];
+    power[3] = 32768;
+    let told = Machine::power_up(7, Plan::new(), &power).unwrap_err().to_string();
+    assert_eq!(told, "a machine: power 4 is 100000 (octal), and may be 0 to 77777");
+    for kind in [0, 14] {
+        let request = AgcRequest { kind, ..AgcRequest::default() };
+        let told = format!("kind is {kind}, and may be 1 to 13");
+        assert_eq!(machine.ask(request).unwrap_err().to_string(), told);
+        assert_eq!(refusal_of(request, &AgcBounds::default()).unwrap_err().to_string(), told);
+    }
+    untidy_words();
     let words = Machine::from_words(&[0; 131], Plan::new()).unwrap_err().to_string();
-    assert_eq!(words, "there have to be 132 words, and these are 131");
+    assert_eq!(words, "words: there have to be 132 or 144, and these are 131");
+}
+
+/// They are lawful, but no request leaves them so: MODE or PUSHLOC of a job, or a gap of LST1 that is minus 0.
+fn untidy_words() {
+    let mut machine = Machine::new(8, Plan::new()).unwrap();
+    for line in ["novac 20 02000 00005", "novac 30 02000 00005", "change", "list 10 02000 00005", "list 10 02000 00005"] {
+        machine.ask(line).unwrap();
+    }
+    assert_eq!(format!("{machine:?}"), "<Machine: job 2 runs; jobs: 2, tasks: 2, alarms: 0>");
+    for (place, bits, name) in [(7, 1, "MODE of core set 0"), (22, 0o77777, "PUSHLOC of core set 1"), (91, 0o77777, "LST1 0")] {
+        let mut words = machine.words().to_vec();
+        words[place] = bits;
+        let told = format!("{name} (word {place}) is {bits:05o}, and would have to be 00000: no request leaves it so");
+        let error = Machine::from_words(&words, Plan::new()).unwrap_err();
+        assert_eq!((error.to_string(), error.code), (format!("words: {told}"), Code::Untidy));
+        assert_eq!(finding_of(&words).unwrap().unwrap().to_string(), told);
+        assert_eq!((error.finding, scene_of(&words).unwrap().running), (finding_of(&words).unwrap(), 2));
+    }
+    // Of a free core set nothing is looked at but that it is free.
+    let mut words = machine.words().to_vec();
+    words[31] = 5;
+    assert_eq!(finding_of(&words).unwrap(), None);
+    words[3] = 32768;
+    let told = finding_of(&words).unwrap().unwrap().to_string();
+    assert_eq!(told, "MPAC+3 of core set 0 (word 3) is 100000: a word has at most fifteen bits");
 }
 
 /// What a machine keeps to itself, and what is told before anything is asked.
