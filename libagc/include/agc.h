@@ -106,7 +106,7 @@ enum {
     AGC_NOT_NOW = 6,      /* a task is due, or at agc_dispatch none is */
     AGC_NULL = 7,         /* agc_pointer alone: the pointer is null or not aligned */
     AGC_UNTIDY = 8,       /* the image is lawful, and no step leaves it so: MODE or PUSHLOC of a job
-                             isn't 0, or a gap of LST1 is 077777 */
+                             isn't 0, or a gap of LST1 is 077777, which would have to be 0 */
     AGC_PLAN_RANGE = 9,   /* a number of the plan is out of its range */
     AGC_TASK_TWICE = 10,  /* one task, of one address and bank, has two rows of the plan */
     AGC_PHASE_TWICE = 11, /* one group and phase has two entries of the plan */
@@ -531,7 +531,7 @@ AGC_USED AgcNumber agc_pulse(uint32_t line, const AgcAction *key, size_t key_cou
                     size_t radar_count, AgcRequest requests[AGC_ACTIONS]);
 
 /* Whether rows make a timetable: AGC_OK, or the first of AGC_TIME_RANGE, AGC_STEAL_TWICE and
-   AGC_COST_TWICE. */
+   AGC_COST_TWICE. The first row that is wrong is found by looking at fewer: docs/embedding/C.md. */
 AGC_USED uint32_t agc_clock_check(const AgcTimetable *table);
 
 /* The next request of a clock for a machine with these words. docs/TIME.md says how time passes. The number tells who asks: 1 the clock, 2 and more an event, the

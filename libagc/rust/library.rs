@@ -17,7 +17,7 @@ pub const NOT_A_WORD: u32 = 5;
 /// A task is due, or at agc_dispatch none is.
 pub const NOT_NOW: u32 = 6;
 /// The image is lawful, and no step leaves it so: MODE or PUSHLOC of a job isn't 0, or a gap of
-/// LST1 is 077777.
+/// LST1 is 077777, which would have to be 0.
 pub const UNTIDY: u32 = 8;
 /// A number of the plan is out of its range.
 pub const PLAN_RANGE: u32 = 9;
@@ -161,7 +161,7 @@ pub enum Code {
     /// A task is due, or at agc_dispatch none is.
     NotNow = 6,
     /// The image is lawful, and no step leaves it so: MODE or PUSHLOC of a job isn't 0, or a gap
-    /// of LST1 is 077777.
+    /// of LST1 is 077777, which would have to be 0.
     Untidy = 8,
     /// A number of the plan is out of its range.
     PlanRange = 9,
@@ -897,6 +897,7 @@ unsafe extern "C" {
     /// FRESH is answered. agc_step asks nobody: it serves what is lawful.
     pub safe fn agc_refusal(request: &AgcRequest, bounds: &AgcBounds) -> u32;
     /// Whether rows make a timetable: OK, or the first of TIME_RANGE, STEAL_TWICE and COST_TWICE.
+    /// The first row that is wrong is found by looking at fewer: docs/embedding/C.md.
     pub safe fn agc_clock_check(table: &AgcTimetable) -> u32;
     /// The next request of a clock for a machine with these words. docs/TIME.md says how time
     /// passes. The number tells who asks: 1 the clock, 2 and more an event, the first being 2;

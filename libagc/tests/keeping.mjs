@@ -2,6 +2,8 @@
 // then.
 //
 //     node keeping.mjs AGC_JS
+//     node keeping.mjs AGC_JS kept    reads a machine and a clock as JSON, and writes them again
+import { readFileSync } from "node:fs";
 import { pathToFileURL } from "node:url";
 import { setFlagsFromString } from "node:v8";
 import { inspect } from "node:util";
@@ -9,6 +11,12 @@ import { runInNewContext } from "node:vm";
 
 const agc = await import(pathToFileURL(process.argv[2]).href);
 const { Clock, Code, Kind, AgcError, Machine, VERSION, findingOf, placeName, pulseOf, refusalOf, replyText, sceneOf } = agc;
+
+if (process.argv[3] === "kept") {
+  const [machine, clock] = JSON.parse(readFileSync(0, "utf8"));
+  console.log(JSON.stringify([Machine.ofState(machine), Clock.ofState(clock)]));
+  process.exit();
+}
 
 const SERVICER = {
   steal: 15,

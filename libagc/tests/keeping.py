@@ -1,4 +1,8 @@
-"""What machines and clocks of agc.py refuse with a sentence, how they are kept, and how threads share one."""
+"""What machines and clocks of agc.py refuse with a sentence, how they are kept, and how threads share one.
+
+    keeping.py              tries it
+    keeping.py kept [-]     writes a machine and a clock as JSON: those of a run, or those that it reads
+"""
 
 import ast
 import copy
@@ -369,5 +373,14 @@ class Keeping(unittest.TestCase):
         self.assertEqual(agc.reply_text(agc.Kind.ALARMED), "a table is full: an alarm")
 
 
+def kept(whose):
+    """A machine and a clock as JSON, whose text JavaScript's has to be."""
+    given = json.load(sys.stdin) if whose else [it.state for it in halfway()]
+    return json.dumps([Machine.of_state(given[0]).state, Clock.of_state(given[1]).state], separators=(",", ":"))
+
+
 if __name__ == "__main__":
-    unittest.main()
+    if sys.argv[1:2] == ["kept"]:
+        print(kept(sys.argv[2:]))
+    else:
+        unittest.main()
