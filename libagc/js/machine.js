@@ -604,7 +604,8 @@ export class Machine {
       const place = at.request / 4;
       numbers[place] = form.kind;
       for (let k = 0; k < given.length; k++) {
-        numbers[place + 1 + k] = given[k] >>> 0 === given[k] ? given[k] : numberOf(form.letters[k], given[k]);
+        const isTaken = Number.isInteger(given[k]) && given[k] >= 0 && given[k] <= MOST;
+        numbers[place + 1 + k] = isTaken ? given[k] : numberOf(form.letters[k], given[k]);
       }
     } else if (given.length === 0) {
       read(request, REQUEST_KINDS);
@@ -672,15 +673,9 @@ export class Machine {
     }
   }
 
-  /** The next request of a clock for this machine. @internal @param {Clock} clock */
-  next(clock) {
-    return clock.give(this.#words, this.#sets, MOST) ? askedAt() : null;
-  }
-
-  /** Tells a clock what came of a request. @internal @param {Clock} clock @param {Step} step */
-  tell(clock, step) {
-    putStep(step);
-    clock.take(this.#words, this.#sets);
+  /** Where its words are, and how many core sets. @internal @returns {[bigint, number]} */
+  get inside() {
+    return [this.#words, this.#sets];
   }
 
   /** Who runs, and how many jobs, tasks and alarms there are. */
@@ -843,12 +838,13 @@ export function refusalOf(request, bounds) {
  */
 export function pulseOf(line, plan = {}) {
   isStarted();
+  if (typeof line !== "string") throw wrong("line", "a string", line);
   if (!DEVICES.includes(line)) {
     throw new AgcError(Code.OUT_OF_RANGE, `line is ${shown(line)}, and may be ${DEVICES.slice(0, -1).join(", ")} or ${DEVICES.at(-1)}`);
   }
   known("a plan of pulses", plan, DOCUMENT);
   const [key, radar] = [plan.key, plan.radar].map((it, k) =>
-    (it?.length === 0 && it !== "" ? [] : valueOf("a pulse", "bench", k === 0 ? "key" : "radar", it) ?? []));
+    (Array.isArray(it) && it.length === 0 ? [] : valueOf("a pulse", "bench", k === 0 ? "key" : "radar", it) ?? []));
   numbers.set([...key, ...radar].flat(), at.actions / 4);
   const second = to.actions + BigInt(REQUEST.size * key.length);
   calls.agc_pulse(to.answer, DEVICES.indexOf(line), to.actions, BigInt(key.length), second, BigInt(radar.length), to.pulse);
@@ -1049,14 +1045,15 @@ export class Clock {
    */
   next(machine) {
     isOf(Machine, "machine", machine);
-    return machine.next(this);
+    return this.give(...machine.inside, MOST) ? askedAt() : null;
   }
 
   /** Tells what came of a request, also of one that the clock didn't give. @param {Machine} machine @param {Step} step */
   served(machine, step) {
     isOf(Machine, "machine", machine);
     isOf(Step, "step", step);
-    machine.tell(this, step);
+    putStep(step);
+    this.take(...machine.inside);
   }
 
   /** The centisecond that passes; 0 before the first tick. */

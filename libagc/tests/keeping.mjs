@@ -321,6 +321,8 @@ function messagesCanBeShown() {
     [() => machine.ask("store", 1, true), "word has to be an integer, and this is true"],
     [() => machine.ask(null), "request has to be a string, and this is null"],
     [() => refusalOf("tick", { served: 0, allowance: "1", logged: 0, limit: 1 }), 'bounds: allowance has to be an integer, and this is "1"'],
+    [() => machine.ask("prio", 5n), "priority has to be an integer, and this is 5"],
+    [() => pulseOf(5), "line has to be a string, and this is 5"],
     [() => pulseOf("key", { key: 5 }), "a pulse: key has to be an array of lines, and this is 5"],
     [() => new Machine({ sets: "7" }), 'a machine: sets has to be an integer, and this is "7"'],
     [() => new Machine({ power: new Array(12).fill(null) }), "a machine: power 1 has to be an integer or five octal digits, and this is null"],
