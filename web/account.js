@@ -9,6 +9,7 @@
  * @typedef {import("./run.js").Shown} Shown
  */
 import { Kind } from "../libagc/js/machine.js";
+import { actionOf } from "./because.js";
 import { alarmsOf } from "./chart.js";
 import { LOG_FULL, SPENT } from "./run.js";
 import { FIRST_ASKED } from "./first.js";
@@ -109,15 +110,12 @@ export function sinceOf(run, since) {
  * @param {Names} names
  * @returns {Piece[][]}
  */
-function raisedBy(run, { step, row }, names) {
-  const last = step?.fired.at(-1);
-  if (step === null || last === undefined || step.action === 0) return [];
-  const [at, bank] = [octal(last.at, 5), octal(last.bank, 5)];
-  const task = run.bench.task.find((it) => it.at === at && it.bank === bank);
-  const which = task === undefined || task.action.length === 1 ? "" : `action ${step.action} of `;
-  const line = task === undefined ? "" : `: ${task.action[step.action - 1]}`;
-  const told = `${which}the task ${names.ofTask(last)}${line}`;
-  return [[`It was asked in the tick of request ${row}, by ${told}.`]];
+function raisedBy(run, shown, names) {
+  const action = actionOf(run, shown);
+  if (action === null) return [];
+  const { last, isOne, number, line } = action;
+  const told = `${isOne ? "" : `action ${number} of `}the task ${names.ofTask(last)}${line === "" ? "" : `: ${line}`}`;
+  return [[`It was asked in the tick of request ${shown.row}, by ${told}.`]];
 }
 
 /** Who holds the table that was full. @param {import("./run.js").Run} run @param {Shown} shown @param {Names} names @returns {Piece[][]} */

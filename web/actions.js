@@ -80,7 +80,8 @@ function seenOf(s, change) {
 /** Goes to a row, which stops the clock. @param {State} s @param {number} row */
 function go(s, row) {
   const at = Math.max(0, Math.min(row, s.count));
-  return { at, isAfter: false, clock: stopped(s), seen: followed(s, at), note: NOBODY, said: NOBODY };
+  const isShown = s.tour.step > 0 && s.tour.step < 3 && s.run.isAlarm(at);
+  return { at, isAfter: false, clock: stopped(s), seen: followed(s, at), note: NOBODY, said: NOBODY, ...(isShown ? { tour: { ...s.tour, step: 3 } } : {}) };
 }
 
 /** All of a run that is filled in the background, for whoever wants to know its end. @param {State} s @returns {State} */
@@ -461,15 +462,14 @@ export const ACTIONS = {
   form: (s, word) => ({ dialog: { name: "form", given: word }, clock: stopped(s) }),
   close: () => ({ dialog: null }),
 
-  tour: (s, step) => ({ tour: { ...s.tour, step: step === 0 ? 0 : Math.max(step, s.tour.step) } }),
+  tour: (s, step) => ({ tour: { ...s.tour, step }, clock: stopped(s) }),
   "tour-again": (s) => ({ ...openedKept(s, "landing-1202"), tour: { step: 1, tried: [] } }),
 };
 
-/** What follows of itself: the tour goes on as an alarm is shown, or a number is changed, and never back. @param {State} s */
+/** What follows of itself: the tour ends with its landing, and goes on as a number is changed. @param {State} s */
 export function settled(s) {
-  const { tour, run, at, count } = s;
+  const { tour, run, count } = s;
   if (tour.step === 0) return null;
   if (count === 0 || run.source.exercise !== "landing-1202") return { tour: { ...tour, step: 0 } };
-  if (tour.step < 3 && run.isAlarm(at)) return { tour: { ...tour, step: 3 } };
   return tour.step === 3 && run !== s.before?.run && s.before !== null ? { tour: { ...tour, step: 4 } } : null;
 }

@@ -2,9 +2,10 @@
  * Why a table was full, in one sentence with the numbers of the run: whose jobs fill it, how much computing
  * time each needs, and how much it gets of every so many seconds.
  */
+import { lateAt } from "./jobs.js";
 import { State } from "./lanes.js";
 import { stolenParts } from "./stolen.js";
-import { seconds } from "./words.js";
+import { octal, seconds } from "./words.js";
 
 const COUNTS = ["No", "One", "Two", "Three", "Four", "Five", "Six", "Seven", "Eight"];
 
@@ -88,6 +89,46 @@ export function causeOf(run, { step, scene, jobsFrom, row, era }) {
 /** What each needs and gets, so that they differ as they are written. @param {{ cost: number, got: number }} cause */
 export function needsOf({ cost, got }) {
   return [cost, got].map(short(cost) === short(got) ? seconds : short);
+}
+
+/**
+ * What raised an alarm in a tick: the action of a task, as a line; nothing where a request of its own did.
+ * @param {import("./run.js").Run} run @param {import("./run.js").Shown} shown
+ */
+export function actionOf({ bench }, { step }) {
+  const last = step?.fired.at(-1);
+  if (step === null || last === undefined || step.action === 0) return null;
+  const task = bench.task.find((it) => it.at === octal(last.at, 5) && it.bank === octal(last.bank, 5));
+  return { last, isOne: (task?.action.length ?? 1) === 1, number: step.action, line: task?.action[step.action - 1] ?? "" };
+}
+
+/**
+ * The last straw: which job asked for one more place, and how many are taken.
+ * @param {import("./run.js").Run} run @param {import("./run.js").Shown} shown @param {import("./account.js").Names} names
+ */
+export function strawOf(run, shown, names) {
+  const [, at] = /^(?:novac|findvac) [0-7]+ ([0-7]+)/.exec(actionOf(run, shown)?.line ?? shown.line) ?? [];
+  const [what, count] = shown.step?.number === 0o1201 ? ["VAC area", 5] : ["core set", run.sets];
+  const name = at === undefined ? undefined : names.job(parseInt(at, 8));
+  return at === undefined ? "" : `one more job${name === undefined ? "" : `, ${name},`} asks for a ${what}, and all ${COUNTS[count].toLowerCase()} are taken.`;
+}
+
+/**
+ * Why the first of the jobs is late that are at a row, and what would run it sooner; null where none is.
+ * @param {import("./run.js").Run} run @param {import("./run.js").Shown} shown @param {import("./account.js").Names} names
+ */
+export function lateOf(run, { row, scene: { sets }, jobsFrom }, names) {
+  const [late] = lateAt(run, row);
+  if (late === undefined) return null;
+  const { at, born, due } = late;
+  const name = names.job(at) ?? "The job";
+  const others = [...new Set(run.lanes.jobs.at.items.slice(1, run.lanes.jobs.count))].filter((it) => it !== at)
+    .flatMap((it) => (gotBy(run, it, born, row) >= 1 ? [`${names.job(it) ?? octal(it, 5)} has had ${short(Math.round(gotBy(run, it, born, row)))} of computing`] : []));
+  const got = Math.round(gotBy(run, at, born, row));
+  const [first, own] = [sets[0], sets.find((it, k) => it !== null && jobsFrom[k] === at)].map((it) => it?.priority ?? 0);
+  const order = first <= own ? "" : ` First goes ${names.job(jobsFrom[0]) ?? "what runs"}, by its priority ${octal(first, 2)}: ${name} has ${octal(own, 2)}.`;
+  return { name, at, text: `${name} was asked for at ${seconds(run.ticksAt(born))} and had to end by ${seconds(Math.round(due / 100))}. `
+    + `Since then ${[...others, `${name} ${got === 0 ? "none" : short(got)}`].join(", ")}.${order}` };
 }
 
 /**

@@ -7,7 +7,9 @@ import { readBench, requestsOf } from "./bench.js";
 import { fillOn, runOf } from "./clock.js";
 import { paint } from "./drawing-canvas.js";
 import { pictureOf } from "./drawing.js";
+import { make } from "./dom.js";
 import { themeNow } from "./stage.js";
+import { octal } from "./words.js";
 
 /** How wide a picture is, and how high all its lanes. */
 const WIDE = 270;
@@ -35,7 +37,12 @@ function drawNext() {
   runs.set(name, run);
   const seen = firstSeen(run);
   if (run.isFilling && seen === null) fillOn(run);
-  else {
+  else if (run.count === 0) {
+    // (where no request follows there is nothing over time: the code that is kept is the picture)
+    const { scene: { codes } } = run.show(0, 0)[0];
+    canvas.replaceWith(make("span", { class: "picture dsky" }, make("span", { class: codes[2] === 0 ? "prog" : "prog on" }, "PROG"), octal(codes[2], 5)));
+    waiting.shift();
+  } else {
     paint(canvas, pictureOf(run, run.count, { width: WIDE, high: HIGH / run.sets, parts: ["sets"], isBare: true, theme: themeNow(), ...seen }));
     waiting.shift();
   }

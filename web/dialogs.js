@@ -25,7 +25,7 @@ function cardOf({ kind, name, text }, k, { length }) {
   const pictures = kind === "exercise" ? [] : [make("canvas", { class: "picture", "aria-hidden": "true" })];
   for (const canvas of pictures) drawCard({ name, text, canvas });
   return make("li", {}, ...pictures, make("button", { type: "button", class: "choice", onclick: () => act("kept", name) }, make("b", {}, title)),
-    make("span", { class: "name" }, kind === "exercise" ? `${k + 1} of ${length}` : name), make("span", { class: "about" }, ...withCode(about)));
+    ...(kind === "exercise" ? [make("span", { class: "name" }, `${k + 1} of ${length}`)] : []), make("span", { class: "about" }, ...withCode(about)));
 }
 
 /** What the examples are called. @type {Record<string, string>} */
@@ -43,7 +43,9 @@ const DIALOGS = {
   help: () => ({ heading: "Help", children: [make("p", {}, button("Show the tour again", () => act("tour-again"), { id: "tour-again" })), ...help()] }),
   examples({ kept }) {
     const listOf = (/** @type {string} */ kind) => make("ul", { class: "choices", "aria-label": `${kind}s` }, ...kept.filter((it) => it.kind === kind).map(cardOf));
-    return { heading: "Examples", children: [listOf("example"), make("h3", {}, "Exercises"), listOf("exercise")],
+    const own = make("p", { class: "own" }, button("Build your own", () => act("new"), { id: "build-own", class: "primary" }),
+      "Say how often each job comes, how much it needs, how urgent it is, and by when it has to end.");
+    return { heading: "Examples", children: [own, listOf("example"), make("h3", {}, "Exercises"), listOf("exercise")],
       focus: () => by("dialog-body").querySelector("button")?.focus() };
   },
   fault: ({ dialog }) => ({ heading: "It isn't opened", children: [make("p", { class: "wrong", id: "fault" }, dialog?.given)] }),

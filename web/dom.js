@@ -41,10 +41,10 @@ export function assign(node, given) {
   for (const [name, value] of Object.entries(given)) if (node[name] !== value) node[name] = value;
 }
 
-/** A document's name becomes a link to it, as it leads there from share/ of a clone. @param {string} text @returns {(Node | string)[]} */
+/** A document's name becomes a link to it where the page is in share/, as in a clone; a copy of the page alone has no documents. @param {string} text @returns {(Node | string)[]} */
 function withLinks(text) {
-  const title = "In a clone of the repository; a copy of this page alone doesn't have it";
-  return text.split(/(docs\/[A-Za-z/]+\.md)/).map((it, k) => (k % 2 === 1 ? make("a", { href: `../${it}`, title }, it) : it));
+  if (!/\/share\/[^/]*$/.test(location.pathname)) return [text];
+  return text.split(/(docs\/[A-Za-z/]+\.md)/).map((it, k) => (k % 2 === 1 ? make("a", { href: `../${it}` }, it) : it));
 }
 
 /** The parts of a text: code is between backquotes, and what is emphasized, between asterisks. @param {string} text @returns {(Node | string)[]} */

@@ -31,13 +31,14 @@ function lineOf(row, name) {
     part === null ? "–" : percent(part), percent(share), ...[least, mean, most].map((it) => (ended === 0 ? "–" : took(it))), late].map((it) => make("td", {}, it)));
 }
 
-/** What the table's lines and its head say. @param {State} now */
-function tableOf({ run, count }) {
+/** What the table's lines and its head say, up to the row that is shown; at the beginning, of all of the run. @param {State} now */
+function tableOf({ run, count: all, at }) {
+  const count = at > 0 ? at : all;
   const rows = run.bench.seconds === undefined ? [] : jobsOf(run, count);
   const names = namesOf(run);
   const parts = rows.map((row) => ({ row, name: names.job(row.at) ?? octal(row.at, 5), part: utilization(row) ?? 0 }));
   const stolen = (budgetOf(run, count, { from: 0, to: run.ticksAt(count) })?.stolen ?? 0) / 100;
-  return { parts, stolen, all: parts.reduce((sum, it) => sum + it.part, stolen) };
+  return { parts, stolen, all: parts.reduce((sum, it) => sum + it.part, stolen), time: at > 0 ? `up to ${seconds(run.ticksAt(count))}` : `in ${run.bench.seconds} s` };
 }
 
 /** The table's lines. @param {State} now */
@@ -52,8 +53,8 @@ export function linesOf(now) {
 
 /** @param {State} now @param {State} before */
 export function jobs(now, before) {
-  const { run, count } = now;
-  if (!differ(now, before, "run", "count", "hidden")) return;
+  const { run } = now;
+  if (!differ(now, before, "run", "count", "at", "hidden")) return;
   const box = by("jobs-box");
   if (run.given !== before.run?.given) assign(box, { open: run.bench.job.some((it) => it.deadline !== undefined) });
   assign(by("jobs"), { hidden: run.isFilling });
@@ -62,12 +63,12 @@ export function jobs(now, before) {
     if (run !== before.run) fill("jobs-sum", ["Jobs …"]);
     return;
   }
-  const { parts, stolen, all } = tableOf(now);
+  const { parts, stolen, all, time } = tableOf(now);
   assign(box, { hidden: parts.length === 0 || isHidden(now) });
   if (box.hidden) return;
   const missed = parts.reduce((sum, it) => sum + it.row.missed, 0);
   const told = [...parts.filter((it) => it.part > 0).map(({ name, part }) => `${name} ${percent(part)}`), ...(stolen > 0 ? [`stolen ${percent(stolen)}`] : [])];
-  fill("jobs-sum", [`Jobs, each by its period: ${told.join(" + ")}${told.length > 1 ? ` = ${percent(all)}` : ""}`,
+  fill("jobs-sum", [`Jobs ${time}: ${told.join(" + ")}${told.length > 1 ? ` = ${percent(all)}` : ""}`,
     ...(missed > 0 ? ["; ", make("span", { class: "late" }, `${counted(missed, "deadline")} missed`)] : [])]);
   fill("jobs", linesOf(now));
 }

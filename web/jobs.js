@@ -65,6 +65,24 @@ export function jobsOf(run, count) {
 }
 
 /**
+ * The jobs that are alive at a row and past their deadlines, in the order in which they began.
+ * @param {Run} run
+ * @param {number} row
+ */
+export function lateAt(run, row) {
+  const { lanes: { jobs }, bench } = run;
+  const momentOf = (/** @type {number} */ it) => (bench.seconds === undefined ? 100 * run.ticksAt(it) : run.momentAt(it));
+  const limits = new Map(bench.job.flatMap(({ at, deadline }) => (deadline === undefined ? [] : [[parseInt(at, 8), 100 * deadline]])));
+  const late = [];
+  for (let id = 1; limits.size > 0 && id < jobs.count && jobs.born.items[id] >> 1 <= row; id++) {
+    const [at, born, gone] = [jobs.at.items[id], jobs.born.items[id] >> 1, jobs.gone.items[id] >> 1];
+    const due = momentOf(born) + (limits.get(at) ?? Infinity);
+    if ((gone === 0 || gone > row) && momentOf(row) > due) late.push({ at, born, due });
+  }
+  return late;
+}
+
+/**
  * What the jobs of each address have computed up to a row, and in what is left of a run that is over.
  * @param {Run} run
  * @param {number} count

@@ -47,12 +47,15 @@ function key(event) {
   const isPressed = on.matches("button, a, summary") && [" ", "Enter"].includes(event.key);
   const isControl = event.ctrlKey || event.metaKey;
   if (isTyped || isPressed || event.altKey || (isControl && event.key !== "z")) return;
-  if (event.key === "Escape" && !state().isProjected) return;
+  if (event.key === "Escape" && !state().isProjected) {
+    if (state().tour.step > 0) act("tour", 0);
+    return;
+  }
   const name = KEYS[/** @type {keyof typeof KEYS} */ (event.key)];
   const pressed = name === undefined ? null : document.getElementById(name);
   if (event.key === "i" || event.key === "/") by("line").focus();
   else if (event.key === "g") {
-    by("expert").open = true;
+    for (const it of ["more", "expert"]) by(it).open = true;
     by("go").focus();
   } else if (event.key === "[" || event.key === "]") act("move", event.key === "[" ? -0.3 : 0.3);
   else if (pressed !== null) pressed.click();

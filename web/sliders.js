@@ -5,12 +5,12 @@
  */
 import { isWhole } from "./actions.js";
 import { outcomeOf } from "./chart.js";
-import { AGAIN } from "./jobs.js";
+import { AGAIN, jobsOf } from "./jobs.js";
 import { assign, attribute, by, fill, make, set } from "./dom.js";
 import { act, differ, isHidden } from "./state.js";
 import { partsOf } from "./stolen.js";
 import { keepStrips, stripOf } from "./strips.js";
-import { seconds, visible } from "./words.js";
+import { counted, seconds, visible } from "./words.js";
 
 /** The most sliders of jobs and of periods. */
 const MOST_COSTS = 24;
@@ -38,11 +38,12 @@ const WHAT = {
  * @param {import("./bench.js").Bench} bench
  * @returns {SliderNumber[]}
  */
-function periodsOf({ task, event }) {
+function periodsOf({ job, task, event }) {
+  const begins = (/** @type {any} */ row) => job.find((it) => it.name !== undefined && row.action.some((/** @type {string} */ line) => line.split(" ")[2] === it.at))?.name;
   const tasks = task.flatMap((row, k) => row.action.map((line, n) => ({ row, k, n, found: AGAIN.exec(line) })))
     .filter(({ row, found }) => found !== null && found[2] === row.at && found[3] === row.bank)
     .map(({ row, k, n, found }) => ({
-      ...{ name: `${visible(row.name ?? row.at)} every`, own: row.at, value: Number(found?.[1]), min: 1 },
+      ...{ name: `${visible(begins(row) ?? row.name ?? row.at)} every`, own: row.at, value: Number(found?.[1]), min: 1 },
       ...{ max: Math.min(16250, Math.max(400, 2 * Number(found?.[1]))), unit: "cs", what: WHAT.period },
       given: (/** @type {number} */ value) => ({ task: task.map((one, m) => (m !== k ? one
         : { ...one, action: one.action.map((it, i) => (i === n ? `list ${value} ${one.at} ${one.bank}` : it)) })) }),
@@ -93,7 +94,7 @@ export function numbersOf(run) {
   const { seed, job } = bench;
   const stolen = stolenOf(run);
   const costs = job.slice(0, MOST_COSTS).flatMap((it, k) => (typeof it.cost !== "number" || given.job[k]?.cost === 1 ? [] : [{
-    ...{ name: visible(it.name ?? it.at), own: it.at, value: it.cost, min: 1 },
+    ...{ name: `${visible(it.name ?? it.at)} needs`, own: it.at, value: it.cost, min: 1 },
     ...{ max: Math.max(400, 2 * it.cost), unit: "cs", what: WHAT.cost },
     given: (/** @type {number} */ cost) =>
       ({ job: job.map((one, n) => (n === k ? { ...one, cost } : one)) }),
@@ -184,6 +185,13 @@ function ask(name) {
   if (row !== undefined && value !== row.number.value) act("change", row.number.given(value), undefined, name);
 }
 
+/** What came of a run, in a line, with the deadlines that were missed where a job has one. @param {Run} run @param {number} count */
+function cameOf(run, count) {
+  const told = outcomeOf(run, count).replace(/, in request [0-9]+/, "").replace(", the first one:", ", first").replace("at most ", "").replace("core sets", "sets");
+  if (run.isFilling || run.bench.job.every((it) => it.deadline === undefined)) return `${told}.`;
+  return `${told}; ${counted(jobsOf(run, count).reduce((sum, it) => sum + it.missed, 0), "deadline")} missed.`;
+}
+
 /** The sliders of a run, what came of it beside what was, and how it differs from its document. @param {State} now @param {State} before */
 export function whatIf(now, before) {
   const { run, count, at, before: older } = now;
@@ -199,7 +207,8 @@ export function whatIf(now, before) {
   }
   if (differ(now, before, "run", "swept", "hidden")) drawStrips(now);
   if (differ(now, before, "run", "count", "before", "hidden")) {
-    const told = older === null || isHidden(now) ? [] : [`Before: ${outcomeOf(older.run, older.count)}.`, `Now: ${outcomeOf(run, count)}.`];
+    const told = isHidden(now) ? [] : older === null ? ["Move a slider: what comes of it is told here."]
+      : [`Before: ${cameOf(older.run, older.count)}`, `Now: ${cameOf(run, count)}`];
     if (by("outcome").textContent !== told.join(" ")) fill("outcome", told.flatMap((it, k) => [k === 0 ? "" : " ", make("span", {}, it)]));
   }
   if (!differ(now, before, "run", "at", "clock")) return;

@@ -1,10 +1,11 @@
 /** The story beside the chart: the tour, what is told of the row, what may be tried, and an exercise's question. */
 import { accountOf, nameOfRestart, orderOf, standingOf } from "./account.js";
-import { becauseOf } from "./because.js";
+import { becauseOf, lateOf, strawOf } from "./because.js";
 import { outcomeOf } from "./chart.js";
 import { assign, button, by, fill, make, set, withCode, withNumbers } from "./dom.js";
 import { FIRST_ASKED } from "./first.js";
 import { GUESSES } from "./guesses.js";
+import { jobsOf } from "./jobs.js";
 import { pieceOf } from "./pieces.js";
 import { predictionOf, verdictOf } from "./predict.js";
 import { LOG_FULL } from "./run.js";
@@ -18,7 +19,8 @@ const SEEN = "agc-workbench-guide";
 /** Which table is full at an alarm that comes in place of 1202. @type {Record<number, string>} */
 const FULL = { 0o1201: "all five VAC areas are taken", 0o1203: "the Waitlist is full" };
 
-/** How many events may be left out. */
+/** The greatest priority, and how many events may be left out. */
+const MOST_URGENT = "37";
 const MOST_EVENTS = 2;
 
 /** Whether the tour was seen before. */
@@ -32,26 +34,36 @@ export function isTourSeen() {
 
 /** The steps of the tour: what each says, and its buttons. @param {State} now @returns {{ text: string, steps: Try[] }} */
 function tourOf(now) {
-  const { tour } = now;
+  const { tour, run, at } = now;
   const guesses = Object.entries(GUESSES).filter(([name]) => !tour.tried.some((it) => it.name === name))
     .map(([name, { label }]) => /** @type {Try} */ ([label, "guess", name]));
   return /** @type {{ text: string, steps: Try[] }[]} */ ([
     { text: "In July 1969, minutes before it landed on the Moon, Apollo 11's computer ran out of room. This landing is like that one.\nThe computer shares its time "
         + "among jobs. Each job needs a core set, a block of twelve words of memory, and there are seven: the rows of the picture.", steps: [["Run", "run"]] },
     { text: "Every two seconds a guidance job begins, the SERVICER, which needs 1.7 s. A radar that nobody needs steals 0.3 s, and the display takes 0.24 s.\n"
-        + "That is 2.24 s of work in every two, 112 %. Bright: the job that runs, always in set 0. Pale: jobs that wait, and still hold their core sets.", steps: [["To the alarm", "alarm-next"]] },
-    { text: `Alarm 1202: one more job asks for a core set, and all seven are taken.\n${firstBecause(now)} Two sleeping jobs hold the other two.\n`
-        + "What would have prevented it? Guess:", steps: guesses },
-    { text: guesses.length > 0 ? "Try the others:" : "Less work prevents the alarm; more room only delays it.\nIn 1969 nobody had time to try. "
-        + "But with each alarm the computer restarted: it dropped the jobs that waited and went on with the guidance, five times, down to the Moon.",
-      steps: guesses.length > 0 ? guesses : [["Apollo 11: five alarms", "kept", "apollo-11"]] },
+        + "That is 2.24 s of work in every two, 112 %. Bright: the job that runs, always in set 0. Pale: jobs that wait, and still hold their core sets. "
+        + "Hatched: two jobs that sleep until something wakes them, and hold theirs, too.",
+      steps: [run.isAlarm(at) ? ["What happened?", "tour", 3] : ["To the alarm", "alarm-next"]] },
+    { text: `Alarm 1202: ${firstBecause(now)} Two sleeping jobs hold the other two.\nWhat would have prevented it? Guess:`, steps: guesses },
+    { text: guesses.length > 0 ? "Try the others, or go on:" : "You have tried all four.", steps: [...guesses, ["What helps", "tour", 5]] },
+    { text: "Less work prevents the alarm; more room only delays it.\nIn 1969 nobody had time to try. But with each alarm the computer restarted: it dropped all jobs, "
+        + "the sleepers too, and by its phase tables began the guidance again and nothing else. So it went on, five times, down to the Moon.",
+      steps: [["Apollo 11: five alarms", "kept", "apollo-11"], ["90 %, and still too late", "kept", "still-too-late"], ["Build your own", "new"]] },
   ])[tour.step - 1];
 }
 
-/** Why the first alarm came. @param {State} now */
+/** How a button of the tour looks: one leads on. @param {Try} it @param {number} k @param {number} step */
+function lookOf([, action, given], k, step) {
+  if (action === "tour" && given < step) return given === 0 ? "quiet last" : "quiet";
+  return action !== "guess" && (k === 0 || step === 4) ? "primary" : "";
+}
+
+/** What the first alarm was, and below it why it came. @param {State} now */
 function firstBecause({ run, tour }) {
   const [row] = run.alarms;
-  return tour.step < 3 || row === undefined ? "" : becauseOf(run, rowsOf(run).at(row), namesOf(run));
+  if (tour.step < 3 || row === undefined) return "";
+  const shown = rowsOf(run).at(row);
+  return `${strawOf(run, shown, namesOf(run))}\n${becauseOf(run, shown, namesOf(run))}`;
 }
 
 /** What came of a guess. @param {{ name: string, run: import("./run.js").Run }} tried */
@@ -94,11 +106,11 @@ export function tour(now, before) {
   }
   if (step === 0) return;
   const { text, steps } = tourOf(now);
-  set(by("guide-step"), `${step} of 4`);
+  set(by("guide-step"), `${step} of 5`);
   const [lead, ...more] = text.split("\n");
   if (by("guide-text").textContent !== [lead, ...more].join(" ")) fill("guide-text", [lead, ...more.flatMap((it) => [" ", make("span", { class: "more" }, it)])]);
-  buttons("guide-steps", [...steps, [step === 4 ? "Done" : "Skip", "tour", 0]], ([, action], k) =>
-    ({ class: k === 0 && steps.length === 1 ? "primary" : action === "tour" ? "quiet last" : "" }));
+  const back = /** @type {Try[]} */ ([2, 3, 5].includes(step) ? [["Back", "tour", step - 1]] : []);
+  buttons("guide-steps", [...steps, ...back, [step === 5 ? "Done" : "Skip", "tour", 0]], (it, k) => ({ class: lookOf(it, k, step) }));
   const lines = tried.map(triedText);
   const list = by("tried");
   if (list.childElementCount !== lines.length) fill(list, lines.map(() => make("li")));
@@ -108,6 +120,9 @@ export function tour(now, before) {
   });
 }
 
+/** A sentence with a capital. @param {string} text */
+const begun = (text) => text.slice(0, 1).toUpperCase() + text.slice(1);
+
 /** At the beginning: how to go on. @param {State} now @param {any} shown @returns {Try[]} */
 function atBeginning({ run, count }, shown) {
   if (count === 0 && run.source.document !== "") return [];
@@ -116,7 +131,17 @@ function atBeginning({ run, count }, shown) {
     return [...asks, ["A landing with alarm 1202", "kept", "landing-1202"]];
   }
   const alarm = run.alarms.find((row) => row > shown.row && row <= count);
-  return alarm === undefined ? [] : [["To the first alarm", "go", alarm]];
+  const late = run.isFilling ? 0 : Math.min(...jobsOf(run, count).flatMap((it) => it.missedRow || []));
+  return /** @type {Try[]} */ ([...(alarm === undefined ? [] : [["To the first alarm", "go", alarm]]), ...(late > 0 && late < Infinity ? [["To the first deadline missed", "late", late]] : [])]);
+}
+
+/** Where a job is late: it as the most urgent of all. @param {State} now @param {any} shown @returns {Try[]} */
+function atLate({ run }, shown) {
+  const late = lateOf(run, shown, namesOf(run));
+  if (late === null || run.bench.seconds === undefined) return [];
+  const first = new RegExp(`^(novac|findvac) [0-7]+ (?=${octal(late.at, 5)} )`);
+  const task = run.bench.task.map((it) => ({ ...it, action: it.action.map((line) => line.replace(first, `$1 ${MOST_URGENT} `)) }));
+  return task.some((it, k) => it.action.join() !== run.bench.task[k].action.join()) ? [[`${begun(late.name)} before all others?`, "change", { task }, true]] : [];
 }
 
 /** At an alarm: what might have prevented it. @param {State} now @param {any} shown @returns {Try[]} */
@@ -141,7 +166,7 @@ export function triesOf(now, shown) {
   /** @type {Try[]} */
   const after = shown.after === null && !shown.isAfter ? [] : [shown.isAfter ? [`Before the ${restart}`, "go", shown.row] : [`After the ${restart}`, "after"]];
   const isAlarm = shown.step !== null && shown.step.alarm !== 0 && !shown.isAfter;
-  return [...after, ...(isAlarm && !isHidden(now) ? atAlarm(now, shown) : [])];
+  return isHidden(now) ? after : [...after, ...(isAlarm ? atAlarm(now, shown) : shown.isAfter ? [] : atLate(now, shown))];
 }
 
 let drawn = "";
@@ -153,14 +178,16 @@ export function account(now, before) {
   const shown = shownOf(now);
   const names = namesOf(run);
   const { heading, lines, isAlarm } = accountOf(run, shown, names, { about: run.about, count, isHidden: isHidden(now) });
-  const isPlain = shown.row > 0 && !isAlarm && !shown.isAfter && !isHidden(now);
-  assign(by("told"), { hidden: now.tour.step > 0, className: `told${isAlarm ? " alarm" : isPlain ? " plain" : ""}` });
-  set(by("told-name"), heading);
-  set(by("because"), isAlarm ? becauseOf(run, shown, names) : "");
+  const late = isAlarm || shown.isAfter || isHidden(now) ? null : lateOf(run, shown, names);
+  const isPlain = shown.row > 0 && !isAlarm && late === null && !shown.isAfter && !isHidden(now);
+  assign(by("told"), { hidden: now.tour.step > 0, className: `told${isAlarm || late !== null ? " alarm" : isPlain ? " plain" : ""}` });
+  set(by("told-name"), late === null ? heading : "A deadline is missed: why");
+  set(by("because"), late !== null ? begun(late.text) : isAlarm ? begun(`${strawOf(run, shown, names)} ${becauseOf(run, shown, names)}`.trim()) : "");
   buttons("try", triesOf(now, shown));
   assign(by("try"), { hidden: by("try").childElementCount === 0 });
   const isAsked = shown.who !== "nobody" && !shown.isAfter;
-  const all = [...lines, ...(isAsked ? [[`Asked by ${shown.who}.`]] : []), ...(isPlain ? [[standingOf(shown, names)]] : [])];
+  const all = late !== null ? [[standingOf(shown, names)]]
+    : [...lines, ...(isAsked ? [[`Asked by ${shown.who}.`]] : []), ...(isPlain ? [[standingOf(shown, names)]] : [])];
   const key = JSON.stringify(all);
   if (key === drawn) return;
   drawn = key;

@@ -1,6 +1,6 @@
 /**
  * The strip under a slider: for each value across when the first alarm comes, the later the higher; a second line
- * is for eight core sets. It is computed in the background, a moment at a time.
+ * is for eight core sets, or for seven where there are eight. It is computed in the background, a moment at a time.
  *
  * @typedef {import("./state.js").State} State
  * @typedef {import("./sweep.js").First} First
@@ -15,8 +15,9 @@ import { themeNow } from "./stage.js";
 import { firstAlarm, valuesOf } from "./sweep.js";
 import { octal, seconds } from "./words.js";
 
+/** How high a strip is and how large its text, where the page's is 16 points. */
 const HIGH = 60;
-const TEXT = 12;
+const TEXT = 13;
 
 /** How far the line is from the edges: a slider's knob is in the middle of its value. */
 const SIDE = 8;
@@ -83,6 +84,7 @@ class Strip {
   constructor(number) {
     this.number = number;
     this.swept = /** @type {Swept | null} */ (null);
+    this.sets = 7;
     this.canvas = make("canvas", { class: "strip", role: "img", tabIndex: -1, "aria-label": `When the first alarm comes, over ${number.name}` });
     this.said = make("p", { class: "said" });
     this.box = make("div", { class: "swept" }, this.canvas, this.said);
@@ -103,19 +105,26 @@ class Strip {
   told(value) {
     const { unit } = this.number;
     const at = unit === "cs" ? seconds(value) : unit === "" ? String(value) : `${value} ${unit}`;
-    const [seven, eight] = this.swept?.firsts.map((it) => it.get(value)) ?? [];
-    if (seven === undefined) return `${at}: not computed yet`;
-    const other = eight === undefined || eight?.time === seven?.time ? "" : `; with 8 sets ${firstText(eight)}`;
-    return `${at}: ${firstText(seven)}${other}`;
+    const [own, other] = this.firsts.map((it) => it.get(value));
+    if (own === undefined) return `${at}: not computed yet`;
+    const more = other === undefined || other?.time === own?.time ? "" : `; with ${15 - this.sets} sets ${firstText(other)}`;
+    return `${at}: ${firstText(own)}${more}`;
+  }
+
+  /** The first alarms with the core sets that there are, and with the other number of them. @returns {Map<number, First>[]} */
+  get firsts() {
+    const [seven, eight] = this.swept?.firsts ?? [new Map(), new Map()];
+    return this.sets === 8 ? [eight, seven] : [seven, eight];
   }
 
   draw() {
-    const { swept, canvas, number } = this;
+    const { swept, canvas, number, firsts } = this;
     const width = canvas.clientWidth;
     if (swept === null || width === 0) return;
-    paint(canvas, /** @type {any} */ ({ width, height: HIGH, theme: themeNow(), marks: marksOf(swept, number, width) }));
+    const size = parseFloat(getComputedStyle(document.documentElement).fontSize) / 16;
+    paint(canvas, /** @type {any} */ ({ width, height: size * HIGH, theme: themeNow(), marks: marksOf({ firsts, isDone: swept.isDone, number }, width, size) }));
     set(this.said, `At ${this.told(number.value)}`);
-    attribute(canvas, "aria-label", `When the first alarm comes, over ${number.name}: ${upTo(swept)}. ${this.said.textContent}`);
+    attribute(canvas, "aria-label", `When the first alarm comes, over ${number.name}: ${upTo({ firsts, number })}. ${this.said.textContent}`);
     canvas.dataset.done = swept.isDone ? "yes" : "no";
   }
 }
@@ -125,21 +134,27 @@ function firstText(first) {
   return first === null ? "no alarm" : `${octal(first.code, 4)} at ${seconds(first.time)}`;
 }
 
-/** Up to which value no alarm comes, of those that are known. @param {Swept} swept */
-function upTo({ firsts: [seven], number: { unit } }) {
-  const values = [...seven.keys()].sort((one, other) => one - other);
-  const first = values.findIndex((it) => seven.get(it) !== null);
+/** Up to which value no alarm comes, of those that are known. @param {{ firsts: Map<number, First>[], number: SliderNumber }} swept */
+function upTo({ firsts: [own], number: { unit } }) {
+  const values = [...own.keys()].sort((one, other) => one - other);
+  const first = values.findIndex((it) => own.get(it) !== null);
   if (first < 1) return first < 0 ? "none with any value" : "with each value";
   return `none up to ${unit === "cs" ? seconds(values[first - 1]) : `${values[first - 1]} ${unit}`.trim()}`;
 }
 
-/** The strip as marks of a picture. @param {Swept} swept @param {SliderNumber} number @param {number} width @returns {import("./drawing.js").Mark[]} */
-function marksOf(swept, { min, max, value }, width) {
-  const { firsts, isDone } = swept;
+/**
+ * The strip as marks of a picture.
+ * @param {{ firsts: Map<number, First>[], isDone: boolean, number: SliderNumber }} swept @param {number} width
+ * @param {number} size how many times as large it is
+ * @returns {import("./drawing.js").Mark[]}
+ */
+function marksOf(swept, width, size) {
+  const { firsts, isDone, number: { min, max, value } } = swept;
+  const [high, text] = [size * HIGH, size * TEXT];
   const xOf = (/** @type {number} */ it) => SIDE + ((it - min) / (max - min)) * (width - 2 * SIDE);
   const times = firsts.flatMap((it) => [...it.values()].flatMap((first) => first?.time ?? []));
   const most = Math.max(1, ...times);
-  const yOf = (/** @type {number} */ time) => HIGH - 3 - (time / most) * (HIGH - 9 - TEXT);
+  const yOf = (/** @type {number} */ time) => high - 3 - (time / most) * (high - 9 - text);
   const sorted = [...firsts[0].keys()].sort((one, other) => one - other);
   // (what is known of a value holds halfway to the next one that was tried)
   const edges = sorted.map((it, k) => (k === 0 ? 0 : (xOf(sorted[k - 1]) + xOf(it)) / 2));
@@ -150,9 +165,9 @@ function marksOf(swept, { min, max, value }, width) {
     if (firsts[0].get(it) !== null) return;
     const end = edges[k + 1] ?? width;
     if (none?.x + none?.width === edges[k]) none.width = end - none.x;
-    else marks.push(none = { kind: "rect", x: edges[k], y: 0, width: end - edges[k], height: HIGH, fill: "work" });
+    else marks.push(none = { kind: "rect", x: edges[k], y: 0, width: end - edges[k], height: high, fill: "work" });
   });
-  marks.push({ kind: "rect", x: 0, y: HIGH - 1, width, height: 1, fill: "line" });
+  marks.push({ kind: "rect", x: 0, y: high - 1, width, height: 1, fill: "line" });
   for (const [k, look] of /** @type {const} */ ([[1, { stroke: "curve", width: 1, isDashed: true }], [0, { stroke: "alarm", width: 2 }]])) {
     /** @type {number[][]} */
     let points = [];
@@ -168,14 +183,14 @@ function marksOf(swept, { min, max, value }, width) {
     }
     end();
   }
-  if (times.length > 0) marks.push({ kind: "text", x: width - 2, y: TEXT, text: seconds(most), size: TEXT, fill: "soft", anchor: "end" });
+  if (times.length > 0) marks.push({ kind: "text", x: width - 2, y: text, text: seconds(most), size: text, fill: "soft", anchor: "end" });
   if (none !== undefined) {
-    const text = isDone ? upTo(swept) : "none";
-    const isIn = textWidth(text, TEXT) < none.width - 8;
-    marks.push({ kind: "text", x: isIn ? none.x + 4 : none.x + none.width + 34, y: isIn ? HIGH - 6 : TEXT, text, size: TEXT, fill: "soft" });
+    const told = isDone ? upTo(swept) : "none";
+    const isIn = textWidth(told, text) < none.width - 8;
+    marks.push({ kind: "text", x: isIn ? none.x + 4 : none.x + none.width + 34, y: isIn ? high - 6 : text, text: told, size: text, fill: "soft" });
   }
   const here = firsts[0].get(value);
-  if (here !== undefined) marks.push({ kind: "path", points: dot(xOf(value), here === null ? TEXT / 2 : yOf(here.time)), fill: "act", stroke: "paper", width: 1.5 });
+  if (here !== undefined) marks.push({ kind: "path", points: dot(xOf(value), here === null ? text / 2 : yOf(here.time)), fill: "act", stroke: "paper", width: 1.5 });
   return marks;
 }
 
@@ -212,7 +227,7 @@ export function stripOf(bench, number) {
   known.delete(key);
   known.set(key, found);
   if (known.size > MOST_KNOWN) known.delete(/** @type {string} */ (known.keys().next().value));
-  Object.assign(strip, { number, swept: found });
+  Object.assign(strip, { number, swept: found, sets: bench.sets ?? 7 });
   found.want(number.value);
   strip.draw();
   if (!work.isDue) {

@@ -170,6 +170,9 @@ export function tables(now, before, told) {
   drawHeadings(shown);
   const alarm = shown.isAfter ? 0 : shown.step?.alarm ?? 0;
   for (const [id, code] of Object.entries({ areas: 0o1201, sets: 0o1202, tasks: 0o1203 })) by(id).classList.toggle("full", alarm === code);
+  // (what a newcomer needn't see is folded, unless the alarm is about it, or nothing else tells of time)
+  const isTimed = now.run.bench.seconds !== undefined;
+  if (alarm === 0o1201 || alarm === 0o1203 || (now.run.given !== (before.run ?? now.run).given)) assign(by("more"), { open: !isTimed || alarm !== 0 });
   by("tables").classList.toggle("after", shown.isAfter === true);
   by("tables").classList.toggle("begins", shown.row === 0);
   for (const id of ["sets", "tasks"]) by(id).classList.toggle("swept", shown.isAfter === true);

@@ -110,8 +110,8 @@ test("a slider acts from the beginning, or from the row that is shown", () => {
   assert.deepEqual([page.outcome.split(";")[0], page.differs], ["no alarm", "This run differs from its document: steal 0 % (document: 15 %)."]);
   page.act("typed", "30.5 s").act("here", true).slide("Stolen time", 15);
   assert.equal(page.differs, "This run differs from its document: steal 0 until 30.50 s, then 15 % (document: 15 %).");
-  for (const [name, value, wanted] of /** @type {[string, number, string][]} */ ([["SERVICER", 100, "SERVICER costs 1.00 s (document: 1.70 s)"],
-    ["Core sets", 8, "core sets 8 (document: 7)"], ["READACCS every", 300, "READACCS every 3.00 s (document: 2.00 s)"]])) {
+  for (const [name, value, wanted] of /** @type {[string, number, string][]} */ ([["SERVICER needs", 100, "SERVICER costs 1.00 s (document: 1.70 s)"],
+    ["Core sets", 8, "core sets 8 (document: 7)"], ["SERVICER every", 300, "SERVICER every 3.00 s (document: 2.00 s)"]])) {
     assert.equal(new Page("#landing-1202").slide(name, value).differs, `This run differs from its document: ${wanted}.`);
   }
   const keys = new Page("#landing-1202").act("alarm-next");

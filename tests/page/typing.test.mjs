@@ -53,11 +53,11 @@ test("sliders have names that tell them apart, and bounds of their own", () => {
     .map(({ name, min, max, value }) => `${name} ${min} ${max} ${value}`);
   const [stolen, sets] = ["Stolen time 0 100 0", "Core sets 7 8 7"];
   for (const [text, wanted] of /** @type {[string, string[]][]} */ ([
-    [twins, [stolen, "WORK (04000) 1 400 10", "WORK (05000) 1 400 20", "WORK every 1 400 60", sets]],
+    [twins, [stolen, "WORK needs (04000) 1 400 10", "WORK needs (05000) 1 400 20", "WORK every 1 400 60", sets]],
     [lists("00005", "00005") + lists("00006", "00006"), [stolen, "T every (02000), 2 1 400 9", "T every (02000), 3 1 400 9", sets]],
-    [lists("00005", "00006"), [stolen, sets]], [job("04000", "cost = 1000"), [stolen, "04000 1 2000 1000", sets]],
+    [lists("00005", "00006"), [stolen, sets]], [job("04000", "cost = 1000"), [stolen, "04000 needs 1 2000 1000", sets]],
     [`seed = 7\n${job("05000", "cost = { from = 1, to = 9 }")}${tick}`, [stolen, "Seed 1 100 7", sets]],
-    [`seed = 7\n${job("05000", "cost = 3")}${tick}`, [stolen, "05000 1 400 3", sets]]])) {
+    [`seed = 7\n${job("05000", "cost = 3")}${tick}`, [stolen, "05000 needs 1 400 3", sets]]])) {
     assert.deepEqual(sliders(text), wanted);
   }
   assert.deepEqual(numbersOf(new Run(readBench(""))).map((it) => it.name), ["Stolen time"]);

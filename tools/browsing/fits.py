@@ -135,7 +135,7 @@ def try_why(browser, trial, path):
         browser.press("a")
         trial.expect(f"the account isn't seen at {size}", browser.value(SEEN))
         told = texts(browser, "#because, #account li:nth-child(-n+9)").split("|")
-        trial.expect(f"first is told: {told}", told[:2] == ["Each SERVICER needs 1.7 s, but gets only 1.5 s of every two. So old ones "
+        trial.expect(f"first is told: {told}", told[:2] == ["One more job, display, asks for a core set, and all seven are taken. Each SERVICER needs 1.7 s, but gets only 1.5 s of every two. So old ones "
                      "are still alive when new ones come: five at once.",
                      "A job is in each core set. These hold them:"] and told[2].startswith("set 0: job 3, ") and told[8].startswith("set 6: job 4, ")
                      and told[9] == "Since the beginning 48 jobs began and 41 ended, and the computer was idle 0 % of the time. "
@@ -151,7 +151,7 @@ HEAR = """window.painted = []; (() => { const { fillText } = CanvasRenderingCont
 LARGE = """(() => {
   const seen = Array.from(document.querySelectorAll('#told *, #state, #title, #run')).filter((it) => it.getClientRects().length > 0 && it.textContent !== '');
   return [Math.min(...window.painted), Math.min(...seen.map((it) => parseFloat(getComputedStyle(it).fontSize))),
-    Array.from(document.querySelectorAll('.card, .state, .list, .menu')).filter((it) => it.getClientRects().length > 0).map((it) => it.id).join(),
+    Array.from(document.querySelectorAll('.card, .state, .list, .menu, #sliders input, .strip')).filter((it) => it.getClientRects().length > 0).map((it) => it.id || it.ariaLabel.split(',')[0]).join(),
     document.getElementById('try').getBoundingClientRect().bottom <= document.getElementById('story').getBoundingClientRect().bottom,
     document.documentElement.scrollHeight <= innerHeight];
 })()"""
@@ -172,7 +172,7 @@ def try_projector(browser, trial, path):
         browser.press("P")
         painted, seen, cards, is_whole, is_one = browser.value(f"{DRAWN}.then(() => {LARGE})", True)
         trial.expect(f"{mark} for a projector: texts of {painted} and {seen} points; {cards}; {is_whole}, {is_one}",
-                     min(painted, seen) >= 18 and cards == "story,chart-box" and is_whole and is_one)
+                     min(painted, seen) >= 18 and cards == "story,clock,Stolen time,When the first alarm comes,chart-box" and is_whole and is_one)
         trial.expect("no way out is seen", browser.value(f"{SHOWN}('projector')") and browser.text("projector") == "P or Esc: back")
         browser.press("Escape" if mark == "#apollo-11" else "P")
         trial.expect("the projector stays", browser.value(f"{SHOWN}('examples') && !{SHOWN}('projector')"))

@@ -4,7 +4,7 @@ import re
 
 from browsing.browser import LAPTOP, PHONE, wait
 from browsing.opened import STRIPED
-from browsing.pages import DRAWN, Trial, filled, go_to, open_text, page_of, save, says, table
+from browsing.pages import DRAWN, Trial, filled, go_to, open_text, page_of, save, says, table, texts
 
 # Two jobs of different names in turn, one that sleeps, an event with a name, and an alarm at the end.
 LANED = "seconds = 20\nsteal = 20\n" + "".join((
@@ -204,7 +204,7 @@ EDGE = """((wanted, left, right) => {
 def try_edges(browser, trial):
     """The edges of the budget are dragged as the sliders are: a job's cost, and the time that is stolen."""
     open_landing(browser)
-    sliders = "['SERVICER', 'Stolen time'].map((it) => Number(document.querySelector(`#sliders input[aria-label='${it}']`).value))"
+    sliders = "['SERVICER needs', 'Stolen time'].map((it) => Number(document.querySelector(`#sliders input[aria-label='${it}']`).value))"
     for k, (wanted, by) in enumerate((("SERVICER", -60), ("stolen", -30))):
         before = browser.value(sliders)
         left, right, *_ = browser.value(PLOT)
@@ -218,15 +218,17 @@ def try_edges(browser, trial):
 
 
 def try_cards(browser, trial):
-    """Each example's card has the picture of its run, in which there is a job's colour where one begins; an exercise's would answer it."""
+    """Each example's card has the picture of its run, in which there is a job's colour where one begins, or if nothing follows its code; an exercise's
+    would answer it."""
     browser.click("examples")
     drawn = "Array.from(document.querySelectorAll('.choices canvas')).filter((it) => it.style.height !== '')"
     cards = browser.value("Array.from(document.querySelectorAll('.choices'), (it) => it.children.length)")
-    browser.wait(f"{drawn}.length === {cards[0]}")
+    browser.wait(f"{drawn}.length === {cards[0] - 1}")
     coloured = browser.value(f"""{drawn}.filter((it) => {{ const {{ data }} = it.getContext('2d').getImageData(0, 0, it.width, it.height);
       for (let k = 0; k < data.length; k += 4) if (data[k + 3] > 0 && Math.abs(data[k] - data[k + 2]) > 60) return true; return false; }}).length""")
     count = browser.value("document.querySelectorAll('.choices canvas').length")
-    trial.expect(f"{coloured} of {count} pictures on {cards} cards", count == cards[0] and coloured >= count - 2)
+    trial.expect(f"{coloured} of {count} pictures on {cards} cards", count == cards[0] - 1 and coloured >= count - 1)
+    trial.expect("power comes back without its code", texts(browser, ".choices .dsky") == "PROG01107")
     browser.press("Escape")
 
 

@@ -15,6 +15,11 @@ CARD = """(() => {
   return isIn && box.top >= bar.bottom - 2 && first.bottom <= innerHeight && first.height > 0;
 })()"""
 
+# Whether the card covers the chart.
+COVERS = """(() => {
+  const [card, chart] = ['story', 'chart-box'].map((id) => document.getElementById(id).getBoundingClientRect());
+  return card.left < chart.right && chart.left < card.right && card.top < chart.bottom && chart.top < card.bottom;
+})()"""
 
 # The buttons that are seen, without those of boxes.
 PRESSED = """Array.from(document.querySelectorAll('button:not(.cover)')).filter((it) => it.getClientRects().length > 0)
@@ -56,7 +61,7 @@ def opening(browser, folder):
         seen = browser.value("document.getElementById('chart-box').dataset.seen")
         trial.expect(f"it is seen from {seen}", seen == "0-3507")
         told = browser.value(GUIDE)
-        trial.expect(told, told.startswith("1 of 4. ") and "a block of twelve words" in told and "there are seven" in told)
+        trial.expect(told, told.startswith("1 of 5. ") and "a block of twelve words" in told and "there are seven" in told)
         seen = browser.value(PRESSED)
         trial.expect(f"at first one sees {seen}", seen == "Examples|Share|Help|Run|Skip")
         try_minute(browser, trial, size)
@@ -86,37 +91,54 @@ def try_written(browser, trial, folder):
 def try_minute(browser, trial, size):
     """From Run to the last guess."""
     press(browser, "Run")
-    told = until(browser, "2 of 4")
+    told = until(browser, "2 of 5")
     trial.expect(f"as it runs: {told}", "SERVICER" in told and "radar" in told)
     trial.expect("what is to come is seen", not browser.value("document.getElementById('future').hidden"))
+    set_speed(browser, "100")
+    browser.wait("document.getElementById('run').textContent === 'Run'")
+    # (who reads on isn't overtaken by the clock)
+    told = browser.value(GUIDE), texts(browser, "#guide-steps button")
+    trial.expect(f"at the alarm the card is {told}", told[0].startswith("2 of 5. ") and told[1] == "What happened?|Back|Skip")
+    press(browser, "Back")
+    trial.expect("no step back", browser.value(GUIDE).startswith("1 of 5. "))
+    browser.press("Home")
+    set_speed(browser, "1")
+    press(browser, "Run")
     press(browser, "To the alarm")
-    told = until(browser, "3 of 4")
+    told = until(browser, "3 of 5")
     said = "document.getElementById('sentence').textContent + document.getElementById('run').textContent + document.getElementById('guide-text').textContent"
     before = browser.value(said)
     trial.expect(f"it goes on behind the alarm: {before}", steady(browser, said, 10) == before and "alarm 1202" in before and "Run" in before)
     trial.expect(f"the state: {browser.text('state')}", browser.text("state") == "30.50 s: ALARM 1202, no free core set")
     names = texts(browser, "#guide-steps button")
-    trial.expect(f"a guess: {names}", names == "No radar time|An eighth set|No display|A shorter guidance|Skip")
+    trial.expect(f"a guess: {names}", names == "No radar time|An eighth set|No display|A shorter guidance|Back|Skip")
+    trial.expect(f"what: {told}", "Alarm 1202: one more job, display, asks for a core set, and all seven are taken." in told)
     trial.expect(f"why: {told}", "Each SERVICER needs 1.7 s, but gets only 1.5 s of every two. So old ones are still alive when new ones come: five at once." in told)
     trial.expect("what came is veiled", browser.value("document.getElementById('future').hidden"))
     trial.expect("the focus is lost", browser.value("document.activeElement !== document.body"))
     browser.value("window.scrollTo(0, 500)")
-    trial.expect(f"the card is out of view at {size}", browser.value(f"{DRAWN}.then(() => {CARD})", True))
+    seen = browser.value(f"{DRAWN}.then(() => [{CARD}, {COVERS}])", True)
+    trial.expect(f"card and chart at {size}: {seen}", seen == [size != PHONE, False])
     browser.value("window.scrollTo(0, 0)")
+    trial.expect(f"the card is out of view at {size}", browser.value(f"{DRAWN}.then(() => {CARD})", True))
     if size == PHONE:
         high = browser.value("document.getElementById('chart-box').getBoundingClientRect().height / innerHeight")
         trial.expect(f"the chart takes {high:.2f} of a phone", high <= 0.41)
     for name in ("An eighth set", "No radar time", "No display", "A shorter guidance"):
         # (one isn't waited for)
         press(browser, name)
-        trial.expect("the card goes back", browser.value(GUIDE).startswith("4 of 4. "))
+        trial.expect("the card goes back", browser.value(GUIDE).startswith("4 of 5. "))
         trial.expect("what was isn't beside", not browser.value("document.getElementById('dismiss').hidden"))
         trial.expect(f"{name}: the focus is lost", browser.value("document.activeElement !== document.body"))
     told = lambda: texts(browser, "#tried li")
     trial.expect(f"what came of them: {told()}", wait(lambda: "…" not in told() and told().count("|With") == 3))
     browser.press("Home")
     set_slider(browser, 15)
-    trial.expect(f"the card goes back: {browser.value(GUIDE)}", browser.value(GUIDE).startswith("4 of 4. "))
+    trial.expect(f"the card goes back: {browser.value(GUIDE)}", browser.value(GUIDE).startswith("4 of 5. "))
+    press(browser, "What helps")
+    told = browser.value(GUIDE), texts(browser, "#guide-steps button")
+    trial.expect(f"at the end: {told}", told[0].startswith("5 of 5. Less work prevents the alarm") and "dropped all jobs, the sleepers too" in told[0]
+                 and told[1] == "Apollo 11: five alarms|90 %, and still too late|Build your own|Back|Done")
     press(browser, "Done")
     trial.expect("it isn't done", browser.value(GUIDE) == "")
 
@@ -127,17 +149,17 @@ def try_remembered(browser, trial, path):
     trial.expect("it isn't remembered", browser.value(GUIDE) == "" and browser.text("title") == "A landing with alarm 1202")
     browser.value("localStorage.clear()")
     browser.show(path)
-    press(browser, "Skip")
+    browser.press("Escape")
     browser.show(path)
     trial.expect("a tour that was skipped comes again", browser.value(GUIDE) == "")
     browser.click("help")
     browser.click("tour-again")
-    trial.expect(f"the tour again: {browser.value(GUIDE)}", browser.value(GUIDE).startswith("1 of 4. ") and not browser.value("document.getElementById('dialog').open"))
+    trial.expect(f"the tour again: {browser.value(GUIDE)}", browser.value(GUIDE).startswith("1 of 5. ") and not browser.value("document.getElementById('dialog').open"))
     browser.press("End")
     browser.press("A")
-    trial.expect(f"an alarm from behind: {browser.value(GUIDE)}", browser.value(GUIDE).startswith("3 of 4. "))
+    trial.expect(f"an alarm from behind: {browser.value(GUIDE)}", browser.value(GUIDE).startswith("3 of 5. "))
     browser.press("Home")
-    trial.expect(f"from the alarm to the beginning: {browser.value(GUIDE)}", browser.value(GUIDE).startswith("3 of 4. "))
+    trial.expect(f"from the alarm to the beginning: {browser.value(GUIDE)}", browser.value(GUIDE).startswith("3 of 5. "))
 
 
 def try_new(browser, trial):

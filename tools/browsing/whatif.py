@@ -81,7 +81,7 @@ def try_jobs(browser, trial):
     told = browser.value("Array.from(document.querySelectorAll('#jobs tr'), (it) => it.children[0].innerText.trim())")
     trial.expect(f"the jobs: {told}", told == ["fast", "slow", "and stolen 10 %"])
     said = browser.text("jobs-sum"), browser.value("document.getElementById('jobs-box').open")
-    trial.expect(f"{said}", re.fullmatch(r"Jobs, each by its period: fast 40 % \+ slow 63 % \+ stolen 10 % = 113 %; \d+ deadlines missed", said[0]) and said[1])
+    trial.expect(f"{said}", re.fullmatch(r"Jobs in 20 s: fast 40 % \+ slow 63 % \+ stolen 10 % = 113 %; \d+ deadlines missed", said[0]) and said[1])
     browser.value("document.querySelector('#jobs button').click()")
     # (the first slow job begins at 0.01 s, and has 1.50 s)
     says(browser, trial, "the first that is missed", "at 1.52 s: tick.")
@@ -94,7 +94,7 @@ def try_jobs(browser, trial):
 
 def try_changes(browser, trial):
     names = texts(browser, "#sliders label span")
-    trial.expect(f"the sliders: {names}", names == "Stolen time|SERVICER|display|READACCS every|MONITOR every|Core sets")
+    trial.expect(f"the sliders: {names}", names == "Stolen time|SERVICER needs|display needs|SERVICER every|display every|Core sets")
     told = browser.value("Array.from(document.querySelectorAll('#sliders label'), (it) => it.title.split(' ').slice(0, 4).join(' ')).join('|')")
     trial.expect(f"what the sliders are about: {told}", told == "What part of the|How much computing time|How much computing time|"
                  "After how long it|After how long it|How many jobs can")
@@ -105,4 +105,4 @@ def try_changes(browser, trial):
     trial.expect("before isn't on the chart", not both)
     browser.click("dismiss")
     both = browser.value("document.getElementById('dismiss').hidden"), browser.text("outcome")
-    trial.expect(f"dismissed: {both}", both == (True, ""))
+    trial.expect(f"dismissed: {both}", both == (True, "Move a slider: what comes of it is told here."))
