@@ -13,7 +13,7 @@ import {
   ACTION_KINDS, CODE_TEXTS, Code, DEVICES, FORMS, JOB_KINDS, KEYS, Kind, LAYOUT, LEAVING_KINDS, LISTING_KINDS, NUMBERS,
   PARTS, PLACES, REPLY_TEXTS, REQUEST_KINDS, STEP_KINDS,
 } from "./library.js";
-import { lineFault, nearest, partOf } from "./lines.js";
+import { lineFault, nearest } from "./lines.js";
 
 export { Code, Kind };
 
@@ -260,7 +260,7 @@ function integer(what, given, low = 0, high = MOST, code = Code.OUT_OF_RANGE, di
 /** A word or an address: a number, or its five octal digits. @param {string} what @param {any} given @param {string} letter @param {number} code */
 function word(what, given, letter, code) {
   if (!Number.isInteger(given) && typeof given !== "string") throw wrong(what, "an integer or five octal digits", given);
-  const { low, high, sentence } = partOf(letter);
+  const { low, high, sentence } = PARTS[letter];
   const number = typeof given === "number" ? given : /^[0-7]{5}$/.test(given) ? parseInt(given, 8) : -1;
   if (number >= low && number <= high) return number;
   throw new AgcError(code, `${what}: ${shown(given)}: ${sentence}`);
@@ -452,7 +452,7 @@ const NAMES = [...FORMS.keys()];
 
 /** A number of a request, for which this letter stands. @param {string} letter @param {any} given */
 function numberOf(letter, given) {
-  const { name, low, high, digits } = partOf(letter);
+  const { name, low, high, digits } = PARTS[letter];
   return integer(name, given, low, high, letter === "W" ? Code.NOT_A_WORD : Code.OUT_OF_RANGE, digits);
 }
 
@@ -770,7 +770,7 @@ export class Asked {
   get text() {
     const { letters = "" } = FORMS.get(this.name) ?? {};
     const shown = this.numbers.map((it, k) => {
-      const { digits } = partOf(letters[k]);
+      const { digits } = PARTS[letters[k]];
       return digits === 0 ? String(it) : it.toString(8).padStart(digits, "0");
     });
     return [this.name, ...shown].join(" ");
