@@ -11,7 +11,7 @@
 import { readFileSync, writeFileSync } from "node:fs";
 import { Clock, Machine, start } from "../libagc/js/machine.js";
 import { readBench } from "../web/bench.js";
-import { svgOf } from "../web/drawing-svg.js";
+import { svgOf } from "../web/drawing-pens.js";
 import { moduleBytes } from "../web/picture.mjs";
 import { octal } from "../web/words.js";
 
@@ -91,7 +91,7 @@ function lineOf({ text, look, corners }, k, found) {
   const y = BOTTOM + 62 + 20 * k;
   return [
     { kind: "path", points: places, ...look },
-    ...places.map(([x, down], steal) => point(x, down, corners, { fill: look.stroke, told: { kind: "text", text: `${steal} %: ${cellOf(found[steal])}` } })),
+    ...places.map(([x, down], steal) => point(x, down, corners, { fill: look.stroke, told: `${steal} %: ${cellOf(found[steal])}` })),
     { kind: "path", points: [[LEFT, y - 4], [LEFT + 30, y - 4]], ...look }, point(LEFT + 15, y - 4, corners, { fill: look.stroke }),
     { kind: "text", x: LEFT + 40, y, text, size: SIZE, fill: "ink" },
   ];
@@ -108,8 +108,6 @@ function pictureOf(found) {
     ...Array.from({ length: 7 }, (_, k) => text(`${5 * k} %`, xOf(5 * k), BOTTOM + 20, { anchor: "middle" })),
     ...KINDS.flatMap((it, k) => lineOf(it, k, found[it.name][0])),
   ];
-  const rounded = (/** @type {number} */ it) => Math.round(10 * it) / 10;
-  for (const it of /** @type {any[]} */ (marks)) Object.assign(it, it.points ? { points: it.points.map((/** @type {number[]} */ at) => at.map(rounded)) } : { x: rounded(it.x), y: rounded(it.y) });
   return svgOf(/** @type {any} */ ({ width: WIDE, height: HIGH, marks }), TITLE);
 }
 

@@ -38,7 +38,7 @@ export function periodOf({ lanes: { jobs }, columns }, at, row) {
  */
 function gotBy(run, at, from, to) {
   const { lanes, bench } = run;
-  const [lane] = lanes.sets;
+  const [lane] = lanes.logs.set;
   let got = 0;
   for (let n = 0; n < lane.count && lane.keys.items[n] >> 1 < to; n++) {
     const block = lanes.block(0, n);

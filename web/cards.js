@@ -5,7 +5,7 @@
 import { SOON, firstSeen } from "./actions.js";
 import { readBench, requestsOf } from "./bench.js";
 import { fillOn, runOf } from "./clock.js";
-import { paint } from "./drawing-canvas.js";
+import { paint } from "./drawing-pens.js";
 import { pictureOf } from "./drawing.js";
 import { make } from "./dom.js";
 import { themeNow } from "./stage.js";

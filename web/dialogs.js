@@ -7,8 +7,7 @@ import { help } from "./help.js";
 import { sharedMark } from "./keep.js";
 import { drawCard } from "./cards.js";
 import { MOST_BYTES } from "./bench.js";
-import { paint } from "./drawing-canvas.js";
-import { svgOf } from "./drawing-svg.js";
+import { paint, svgOf } from "./drawing-pens.js";
 import { pictureSeen } from "./stage.js";
 import { act, differ, isHidden, sceneAfter, state } from "./state.js";
 

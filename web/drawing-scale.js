@@ -3,25 +3,24 @@
  * time goes by, the requests. By requests each one has a column for what it has left, and before that
  * another one for what a restart swept.
  */
-import { lastUpTo } from "./lanes.js";
+import { lastUpTo, lastWhere } from "./lanes.js";
 
-/** The least part that is zoomed to: ticks, or requests. */
-const LEAST_SPAN = 20;
-
-/** Up to how many requests of a bench have a column each, even if time goes by. */
-const FEW = 120;
+/** The least part that is zoomed to, in ticks or requests; and up to how many requests of a bench have a column each, even if time goes by. */
+const [LEAST_SPAN, FEW] = [20, 120];
 
 /** How far two marks of an axis are apart at least, in points: of seconds, and of requests. */
 const APART = [90, 45];
 
 export class Scale {
-  /** @param {import("./run.js").Run} run @param {number} count */
-  constructor(run, count) {
+  /** @param {import("./run.js").Run} run @param {number} count @param {import("./run.js").Run} [over] whose restarts have columns */
+  constructor(run, count, over = run) {
     this.run = run;
     this.count = count;
+    this.eras = over.lanes.eras;
     const isLong = run.bench.seconds !== undefined || count > FEW;
     this.isTime = isLong && run.ticksAt(count) >= LEAST_SPAN;
     this.end = Math.max(1, this.isTime ? run.ticksAt(count) : this.placeOf(count) + 1);
+    this.lastKey = 2 * count + 1;
     this.from = 0;
     this.to = this.end;
   }
@@ -31,26 +30,14 @@ export class Scale {
     return this.from === 0 && this.to === this.end;
   }
 
-  /** How many restarts there were up to a row. @param {number} row */
-  erasUpTo(row) {
-    const { eras } = this.run.lanes;
-    return lastUpTo(eras, eras.length, row) + 1;
-  }
-
   /** @param {number} row */
   placeOf(row) {
-    return this.isTime ? this.run.ticksAt(row) : row + this.erasUpTo(row);
+    return this.isTime ? this.run.ticksAt(row) : row + lastUpTo(this.eras, this.eras.length, row) + 1;
   }
 
   /** The place of an entry of the lanes. @param {number} key */
   placeOfKey(key) {
-    const row = key >> 1;
-    return this.isTime || (key & 1) === 1 ? this.placeOf(row) : this.placeOf(row) - 1;
-  }
-
-  /** The last key of the rows there are. */
-  get lastKey() {
-    return 2 * this.count + 1;
+    return this.placeOf(key >> 1) - (this.isTime || (key & 1) === 1 ? 0 : 1);
   }
 
   /** Where something ends: with the run, where nothing has ended it. @param {number} key and 0 for none */
@@ -58,30 +45,11 @@ export class Scale {
     return key === 0 || key > this.lastKey ? this.end : this.placeOfKey(key);
   }
 
-  /** The last row at a place. @param {number} place */
-  rowAt(place) {
-    return Math.min(this.count, this.keyAt(place) >> 1);
-  }
-
-  /** The first row at a place, or after it. @param {number} place */
-  firstRow(place) {
-    return this.isTime ? this.run.rowAtTime(Math.ceil(place), this.count) : this.rowAt(place);
-  }
-
   /** The last key at a place: what entry of the lanes holds there. @param {number} place */
   keyAt(place) {
-    const whole = Math.max(0, Math.floor(place));
-    if (this.isTime) {
-      const next = this.run.rowAtTime(whole + 1, this.count);
-      return 2 * (this.run.ticksAt(next) > whole ? Math.max(0, next - 1) : next) + 1;
-    }
-    let [low, high] = [0, this.count + 1];
-    while (low + 1 < high) {
-      const middle = (low + high) >> 1;
-      if (this.placeOf(middle) <= whole) low = middle;
-      else high = middle;
-    }
-    return this.placeOf(low) < whole && low < this.count ? 2 * low + 2 : 2 * low + 1;
+    const row = Math.max(0, lastWhere(this.count + 1, (it) => this.placeOf(it) <= place));
+    const isSwept = !this.isTime && this.placeOf(row) <= place - 1 && row < this.count;
+    return 2 * row + (isSwept ? 2 : 1);
   }
 
   /** How far across a place is: 0 is the left edge, and 1 the right. @param {number} place */
@@ -111,11 +79,7 @@ export class Scale {
 
   /** The scale of another run, of which the same part is seen; null where that isn't measured alike. @param {{ run: import("./run.js").Run, count: number }} other */
   ofOther({ run, count }) {
-    const made = new Scale(run, count);
-    // (each request stands above or below the same one of this run)
-    made.erasUpTo = (row) => this.erasUpTo(row);
-    if (!made.isTime) made.end = made.placeOf(count) + 1;
-    [made.from, made.to] = [this.from, this.to];
+    const made = Object.assign(new Scale(run, count, this.run), { from: this.from, to: this.to });
     return made.isTime === this.isTime ? made : null;
   }
 
@@ -133,8 +97,6 @@ export class Scale {
 
 /** The least round number that is as much or more. @param {number} least */
 function stepOf(least) {
-  for (let ten = 1; ; ten *= 10) {
-    const found = [1, 2, 5].find((it) => it * ten >= least);
-    if (found !== undefined) return found * ten;
-  }
+  const ten = 10 ** Math.floor(Math.log10(Math.max(1, least)));
+  return [1, 2, 5, 10].map((it) => it * ten).find((it) => it >= least) ?? 10 * ten;
 }

@@ -3,14 +3,16 @@
  * is a list of lines.
  *
  * @typedef {import("./run.js").Run} Run
- * @typedef {import("./account.js").Names} Names
- * @typedef {import("./drawing.js").Picture} Picture
- * @typedef {import("./drawing.js").Band} Band
+ * @typedef {import("./drawing.js").Sheet} Sheet
+ * @typedef {import("./lanes.js").Kind} Kind
  */
 import { stolenAt } from "./stolen.js";
 import { octal, seconds } from "./words.js";
 
 const STATES = ["", "runs", "waits", "sleeps"];
+
+/** What each lane is called, by its number. @type {Record<Kind, (k: number) => string>} */
+const PLACES = { set: (k) => `core set ${k}`, area: (k) => `VAC area ${k + 1}`, task: () => "Waitlist" };
 
 /** A request, with its time if it has one: `26.01 s (request 2705)`. @param {Run} run @param {number} row */
 export function whenOf(run, row) {
@@ -28,15 +30,12 @@ function isRestart(run, key) {
   return (key & 1) === 1 && run.lanes.eras.includes(key >> 1);
 }
 
-/**
- * The requests over which something is there: with the one whose restart swept it.
- * @param {Run} run
- * @param {number} from a key of the lanes
- * @param {number} to a key, and 0 where nothing has ended it
- */
-function requestsOver(run, from, to) {
+/** The requests over which an entry of a log holds: with the one whose restart swept it. @param {Run} run @param {import("./lanes.js").Log} log @param {number} entry */
+function requestsOver(run, log, entry) {
+  const [from, to] = [log.keys.items[entry], log.endOf(entry)];
+  if (to === 0) return `from request ${from >> 1} on`;
   const last = isRestart(run, to) ? to >> 1 : Math.max(from >> 1, (to >> 1) - 1);
-  return to === 0 ? `from request ${from >> 1} on` : `requests ${from >> 1} to ${last}`;
+  return `requests ${from >> 1} to ${last}`;
 }
 
 /** From when to when a job or a task is there. @param {Run} run @param {"jobs" | "tasks"} kind @param {number} id */
@@ -50,19 +49,15 @@ function spanOf(run, kind, id) {
   return [since, `until ${whenOf(run, row)}${line === "tick" ? "" : `: ${line}`}`];
 }
 
-/** @param {Run} run @param {number} id @param {Names} names @param {import("./lanes.js").Block} [block] how it is, at one place */
-function tellJob(run, id, names, block) {
-  const { jobs } = run.lanes;
-  const at = jobs.at.items[id];
-  const how = block === undefined ? [] : [`priority ${octal(block.priority, 2)}, ${STATES[block.state]}`
-    + `${block.now === at ? "" : ` at ${names.ofJob(block.now)}`}${block.area === 0 ? "" : `, VAC area ${block.area}`}`];
-  return [`job ${jobs.more.items[id]}, ${names.ofJob(at)}`, ...how, ...spanOf(run, "jobs", id)];
-}
-
-/** @param {Run} run @param {number} id @param {Names} names */
-function tellTask(run, id, names) {
-  const { at, bank } = run.lanes.tasks;
-  return [`task ${names.ofTask({ at: at.items[id], bank: bank.items[id] })}`, ...spanOf(run, "tasks", id)];
+/** Who is in a lane, and of a job how it is then. @param {Sheet} sheet @param {Kind} kind @param {number} id @param {number} key */
+function tellWho({ run, names }, kind, id, key) {
+  const { lanes } = run;
+  const { at, bank, more } = lanes[kind === "task" ? "tasks" : "jobs"];
+  if (kind === "task") return [`task ${names.ofTask({ at: at.items[id], bank: bank.items[id] })}`, ...spanOf(run, "tasks", id)];
+  const block = lanes.logs.set.map((_, k) => lanes.blockAt(k, key)).find((it) => it?.id === id);
+  const moved = block === undefined || block?.now === at.items[id] ? "" : ` at ${names.ofJob(block?.now ?? 0)}`;
+  const how = !block ? [] : [`priority ${octal(block.priority, 2)}, ${STATES[block.state]}${moved}${block.area === 0 ? "" : `, VAC area ${block.area}`}`];
+  return [`job ${more.items[id]}, ${names.ofJob(at.items[id])}`, ...how, ...spanOf(run, "jobs", id)];
 }
 
 /** How much of a table is in use after a row, or what else a strip tells of it. @param {Run} run @param {string} name @param {number} row */
@@ -76,80 +71,39 @@ function tellStrip(run, name, row) {
   }
 }
 
-/** What a mark is about; nothing where it needs no words. @param {Picture} picture @param {import("./drawing.js").Told} [told] @returns {string[]} */
-export function tellMark({ run, names }, told) {
+/** What a mark is about; nothing where it needs no words. @param {Sheet} sheet @param {import("./drawing.js").Told} [told] @returns {string[]} */
+export function tellMark(sheet, told) {
   if (told === undefined) return [];
-  if (told.kind === "text") return [told.text];
-  if (told.kind === "job") {
-    const block = run.lanes.block(told.set, told.entry);
-    return block === null ? []
-      : [`core set ${told.set}, ${requestsOver(run, block.from, block.to)}`, ...tellJob(run, block.id, names, block)];
-  }
-  const { born, gone, area } = run.lanes[told.kind === "task" ? "tasks" : "jobs"];
-  const span = requestsOver(run, born.items[told.id], gone.items[told.id]);
-  return told.kind === "task" ? [`Waitlist, ${span}`, ...tellTask(run, told.id, names)]
-    : [`VAC area ${area.items[told.id]}, ${span}`, ...tellJob(run, told.id, names)];
-}
-
-/** Where a row is across: beyond the plot, where it isn't seen. @param {Picture} picture @param {number} row */
-export function xOfRow({ scale, plot }, row) {
-  return plot.left + scale.partOf(scale.placeOf(row)) * (plot.right - plot.left);
-}
-
-/** Which part of the width a point is at. @param {Picture} picture @param {number} x */
-export function partAtX({ plot }, x) {
-  return Math.max(0, Math.min(1, (x - plot.left) / (plot.right - plot.left)));
-}
-
-/** @param {Picture} picture @param {number} x */
-export function placeAtX(picture, x) {
-  const { from, to } = picture.scale;
-  return from + partAtX(picture, x) * (to - from);
+  if (typeof told === "string") return [told];
+  const { kind, k, entry } = told;
+  const log = sheet.run.lanes.logs[kind][k];
+  return [`${PLACES[kind](k)}, ${requestsOver(sheet.run, log, entry)}`, ...tellWho(sheet, kind, log.ids.items[entry], log.keys.items[entry])];
 }
 
 /**
  * What lies at a point, and what is said of it; nothing beside the bands.
- * @param {Picture} picture
- * @param {number} x
- * @param {number} y
+ * @param {Sheet} sheet @param {number} x @param {number} y
  * @returns {import("./drawing.js").Hit | null}
  */
-export function hitAt(picture, x, y) {
-  const { run, count, plot, scale, bands } = picture;
-  const isIn = (/** @type {Band} */ it) => y >= it.top && y < it.bottom
-    && x >= (it.left ?? plot.left) && x <= (it.right ?? plot.right);
-  const band = bands.findLast(isIn);
+export function hitAt(sheet, x, y) {
+  const { run, left, right, scale } = sheet;
+  const band = sheet.bands.findLast((it) => y >= it.top && y < it.bottom && x >= (it.left ?? left) && x <= (it.right ?? right));
   if (band === undefined) return null;
-  const place = placeAtX(picture, x);
+  const place = sheet.placeAt(x);
   const key = scale.keyAt(place);
-  const row = Math.min(count, key >> 1);
+  const row = key >> 1;
   const when = scale.isTime ? seconds(Math.floor(place)) : `request ${row}`;
-  const { kind, name, row: own = 0 } = band;
+  const { kind, name, k = 0, row: own = 0, edge, text = "" } = band;
   switch (kind) {
-    case "set": case "area": return hitJob(picture, band, key, when);
-    case "task": return hitTask(picture, band, key, when);
+    case "set": case "area": case "task": {
+      const log = run.lanes.logs[kind][k];
+      const [id, where] = [log.ids.items[log.entryAt(key)], `${when}, ${PLACES[kind](k)}`];
+      if (id === 0) return { kind: "lane", row, text: `${where}: ${kind === "task" ? "nothing waits here" : "free"}` };
+      return { kind: kind === "task" ? "task" : "job", id, row, text: [where, ...tellWho(sheet, kind, id, key)].join("\n") };
+    }
     case "work": return { kind, row, text: `${when}: jobs still need ${seconds(run.columns.waiting.items[row] / 100)} of computing` };
     case "alarm": return { kind, row: own, text: `${restartOf(run, own)}\n${whenOf(run, own)}` };
     case "strip": return { kind, name, row, text: `${when}: ${tellStrip(run, name ?? "", row)}` };
-    default: return { kind, name, row: band.row, edge: band.edge, text: band.text ?? "" };
+    default: return { kind, name, row: band.row, edge, text };
   }
-}
-
-/** @param {Picture} picture @param {Band} band @param {number} key @param {string} when */
-function hitJob({ run, names }, { kind, k = 0 }, key, when) {
-  const row = key >> 1;
-  const blocks = run.lanes.sets.map((_, set) => run.lanes.blockAtKey(set, key));
-  const block = (kind === "set" ? blocks[k] : blocks.find((it) => it?.area === k + 1)) ?? null;
-  const where = `${when}, ${kind === "set" ? `core set ${k}` : `VAC area ${k + 1}`}`;
-  if (block === null) return { kind: "lane", row, text: `${where}: free` };
-  return { kind: "job", id: block.id, row, text: [where, ...tellJob(run, block.id, names, block)].join("\n") };
-}
-
-/** @param {Picture} picture @param {Band} band @param {number} key @param {string} when */
-function hitTask({ run, names }, { k = 0 }, key, when) {
-  const { tasks } = run.lanes;
-  const row = key >> 1;
-  const id = [...tasks.over(key, key)].find((it) => tasks.place.items[it] === k);
-  if (id === undefined) return { kind: "lane", row, text: `${when}, Waitlist: nothing waits here` };
-  return { kind: "task", id, row, text: [`${when}, Waitlist`, ...tellTask(run, id, names)].join("\n") };
 }

@@ -45,7 +45,7 @@ export function jobsOf(run, count) {
   const rows = new Map();
   for (let id = 1; id < jobs.count && jobs.born.items[id] >> 1 <= count; id++) {
     const [at, born, gone] = [jobs.at.items[id], jobs.born.items[id], jobs.gone.items[id]];
-    const row = rows.get(at) ?? rowOf(run, at, run.lanes.blockAtKey(jobs.place.items[id], born)?.priority ?? 0);
+    const row = rows.get(at) ?? rowOf(run, at, run.lanes.blockAt(jobs.place.items[id], born)?.priority ?? 0);
     rows.set(at, row);
     row.began += 1;
     const isAlive = gone === 0 || gone >> 1 > count;
@@ -91,7 +91,7 @@ export function lateAt(run, row) {
 function computedOf(run, count, isOver) {
   /** @type {Map<number, number>} */
   const computed = new Map();
-  const [{ left }, [lane]] = [run.columns, run.lanes.sets];
+  const [{ left }, [lane]] = [run.columns, run.lanes.logs.set];
   for (let entry = 0; entry < lane.count && lane.keys.items[entry] <= 2 * count + 1; entry++) {
     const block = run.lanes.block(0, entry);
     if (block?.state !== State.RUNS) continue;

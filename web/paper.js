@@ -11,7 +11,7 @@ import { accountOf } from "./account.js";
 import { becauseOf } from "./because.js";
 import { summaryOf } from "./chart.js";
 import { by, fill, make, withCode, withNumbers } from "./dom.js";
-import { paint } from "./drawing-canvas.js";
+import { paint } from "./drawing-pens.js";
 import { EXERCISES } from "./fields.js";
 import { linesOf } from "./job-table.js";
 import { cellsOf, styleOf } from "./list.js";

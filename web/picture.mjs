@@ -13,7 +13,7 @@ import { countOf, readBench, requestsOf } from "./bench.js";
 import { runOf } from "./clock.js";
 import { pictureOf } from "./drawing.js";
 import { Scale } from "./drawing-scale.js";
-import { svgOf } from "./drawing-svg.js";
+import { svgOf } from "./drawing-pens.js";
 import { MOST_ASKED, MOST_ROWS } from "./run.js";
 import { counted, visible } from "./words.js";
 

@@ -357,11 +357,10 @@ export class Run {
 
   /** An event with several requests is one mark. @param {number} row @param {number} asker */
   noteEvent(row, asker) {
-    const { count, rows, by } = this.lanes.events;
-    const last = count === 0 ? -1 : rows.items[count - 1];
-    const isSame = last >= 0 && by.items[count - 1] === asker
-      && this.ticksAt(last) === this.head.now;
-    if (!isSame) this.lanes.event(row, asker);
+    const { events } = this.lanes;
+    const last = events.at(-1);
+    const isSame = last !== undefined && this.columns.by.items[last] === asker && this.ticksAt(last) === this.head.now;
+    if (!isSame) events.push(row);
   }
 
   /** The witness as it was after a row: to show it, or with its clock, to go on from there. @param {number} row @param {boolean} goesOn */

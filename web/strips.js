@@ -7,8 +7,7 @@
  * @typedef {{ name: string, min: number, max: number, value: number, unit: string, given: (value: number) => any }} SliderNumber
  */
 import { writeBench } from "./bench.js";
-import { paint } from "./drawing-canvas.js";
-import { textWidth } from "./drawing-text.js";
+import { paint, textWidth } from "./drawing-pens.js";
 import { attribute, make, set } from "./dom.js";
 import { act, state } from "./state.js";
 import { themeNow } from "./stage.js";

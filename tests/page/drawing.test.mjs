@@ -9,9 +9,8 @@ import { readBench, requestsOf } from "../../web/bench.js";
 import { Colours } from "../../web/colours.js";
 import { pictureOf } from "../../web/drawing.js";
 import { Scale } from "../../web/drawing-scale.js";
-import { svgOf } from "../../web/drawing-svg.js";
-import { textWidth } from "../../web/drawing-text.js";
-import { hitAt, xOfRow } from "../../web/drawing-words.js";
+import { svgOf, textWidth } from "../../web/drawing-pens.js";
+import { hitAt } from "../../web/drawing-words.js";
 import { budgetOf, partAsked, workOf } from "../../web/work.js";
 import { drawn, moduleBytes } from "../../web/picture.mjs";
 import { Run } from "../../web/run.js";
@@ -65,7 +64,7 @@ test("deadlines are marked", () => {
   for (const [deadline, fill] of /** @type {[number, string][]} */ ([[30, "alarm"], [60, "ink"]])) {
     const run = runOf(`seconds = 1\n[[job]]\nat = "04000"\ncost = 50\ndeadline = ${deadline}\n[[event]]\nat = 10\ndo = "novac 20 04000 00005"\n`);
     const picture = pictureOf(run, run.count, { width: 700 });
-    const placeOf = (/** @type {number} */ ticks) => picture.plot.left + (ticks / 100) * (picture.plot.right - picture.plot.left);
+    const placeOf = (/** @type {number} */ ticks) => picture.left + (ticks / 100) * (picture.right - picture.left);
     const near = (/** @type {number} */ x, /** @type {number} */ ticks) => Math.abs(x - placeOf(ticks)) < 8;
     const red = picture.marks.filter((it) => it.kind === "rect" && it.fill === "alarm");
     expect(`red after ${deadline}`, red.map((it) => it.kind === "rect" && near(it.x, 40) && near(it.x + it.width, 60)), fill === "alarm" ? [true] : []);
@@ -136,9 +135,9 @@ test("moments are kept", () => {
   const task = (/** @type {string} */ at) => `[[task]]\nat = "${at}"\nbank = "00005"\naction = "novac 20 04${at.slice(2)} 00005"\n`;
   const run = runOf(`script = ${JSON.stringify([...Array(6).fill("novac 10 05000 00005"), "list 1 02100 00005", "list 1 02200 00005", "tick"])}\n${task("02100")}${task("02200")}`);
   expect("an alarm", run.alarms, [9]);
-  const set = run.lanes.sets.map((_, k) => run.lanes.blockAtKey(k, 2 * 9)?.at);
+  const set = run.lanes.logs.set.map((_, k) => run.lanes.blockAt(k, 2 * 9)?.at);
   expect("the job of the moment runs", set.filter((it) => it === 0o4100 || it === 0o4200).length, 1);
-  expect("after it nobody does", run.lanes.sets.map((_, k) => run.lanes.blockAt(k, 9)), Array(7).fill(null));
+  expect("after it nobody does", run.lanes.logs.set.map((_, k) => run.lanes.blockAt(k, 2 * 9 + 1)), Array(7).fill(null));
   const picture = pictureOf(run, run.count, { width: 900 });
   expect("it is told", svgOf(picture).includes("job 7, 04100") || svgOf(picture).includes("job 7, 04200"), true);
 });
@@ -149,7 +148,7 @@ test("places are told", () => {
   const picture = pictureOf(run, run.count, { width: 900, opened: ["areas", "tasks"] });
   const at = (/** @type {string} */ kind, /** @type {number} */ k, /** @type {number} */ row) => {
     const band = picture.bands.find((it) => it.kind === kind && it.k === k);
-    return hitAt(picture, xOfRow(picture, row) + 1, (band?.top ?? 0) + 2)?.text.split("\n");
+    return hitAt(picture, picture.xOfRow(row) + 1, (band?.top ?? 0) + 2)?.text.split("\n");
   };
   expect("a task", at("task", 0, 5), ["request 5, Waitlist", "task 02000", "since request 1", "until 0.05 s (request 6)"]);
   expect("a place that is free again", at("task", 0, 6), ["request 6, Waitlist: nothing waits here"]);

@@ -1,5 +1,5 @@
 // What is wrong with the marks of a picture.
-import { textWidth } from "../../web/drawing-text.js";
+import { textWidth } from "../../web/drawing-pens.js";
 
 /** @param {import("../../web/drawing.js").Mark} mark */
 function boxOf(mark) {

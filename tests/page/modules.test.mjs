@@ -139,9 +139,8 @@ test("events are marked", () => {
   const run = new Run(readBench("seconds = 1\n"));
   for (const [line, who] of [["phase 1 1", "event A"], ["phase 1 2", "event A"], ["phase 2 1", "event 2"], ["tick", "the clock"],
     ["phase 1 3", "event A"]]) run.ask(line, who);
-  const { count, rows } = run.lanes.events;
-  expect("events are marked", Array.from(rows.items.subarray(0, count)), [1, 3, 5]);
-  expect("events up to a row", [2, 3, 4, 5].map((row) => run.fork(row).lanes.events.count), [1, 2, 2, 3]);
+  expect("events are marked", run.lanes.events, [1, 3, 5]);
+  expect("events up to a row", [2, 3, 4, 5].map((row) => run.fork(row).lanes.events.length), [1, 2, 2, 3]);
 });
 
 /** Of a run with rows of a script, of a hand, and of an event that was pressed. */
@@ -204,7 +203,7 @@ test("parts are seen", () => {
   scale.see(20, 60);
   const same = scale.ofOther(other);
   expect("what another scale sees", [scale.ofOther(short), same?.from, same?.to], [null, 20, 60]);
-  expect("rows at places", [scale.rowAt(0), scale.rowAt(3.7), scale.rowAt(100), short.rowAt(1.9)], [0, 3, 100, 1]);
+  expect("rows at places", [scale.keyAt(0), scale.keyAt(3.7), scale.keyAt(100), short.keyAt(1.9)].map((it) => it >> 1), [0, 3, 100, 1]);
 });
 
 /** The jobs of a document come first, then those of its phases; the ninth has the first colour again, as all from the 65th on. */

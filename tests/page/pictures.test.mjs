@@ -102,7 +102,7 @@ test("pictures have all that their rows have", () => {
   });
   const elements = python(["-c", READ], found.flatMap((/** @type {any} */ it) => it.svg ?? []));
   assert.ok(elements.length > 0.8 * MANY, `only ${elements.length} documents were drawn`);
-  assert.deepEqual([...new Set(elements.flat().map((/** @type {any} */ it) => it.tag))].sort(), ["path", "pattern", "rect", "style", "svg", "text", "title"]);
+  assert.deepEqual([...new Set(elements.flat().map((/** @type {any} */ it) => it.tag))].sort(), ["path", "rect", "style", "svg", "text", "title"]);
   for (const [k, { picture }] of found.entries()) {
     const rows = rowsOf(k, texts[k], picture?.run);
     assert.equal(picture === undefined, rows === null, `drawn or refused: ${texts[k]}`);
