@@ -312,7 +312,10 @@ const CODES = {
  */
 function textOf(what, form, given, code) {
   if (form === "address" || form === "word") return word(what, given, form[0].toUpperCase(), code);
-  if (form in KINDS) return read(given, KINDS[form], what);
+  if (form in KINDS) {
+    read(given, KINDS[form], what);
+    return numbersAt(at.request, 4);
+  }
   if (typeof given !== "string") throw wrong(what, "a string", given);
   return given;
 }
@@ -457,7 +460,7 @@ function numberOf(letter, given) {
 }
 
 /**
- * Reads a line of one of these kinds into the place for a request: its kind and its numbers.
+ * Reads a line of one of these kinds into the place for a request.
  * @param {any} line @param {string[]} kinds @param {string} [what]
  */
 function read(line, kinds, what = "") {
@@ -466,7 +469,6 @@ function read(line, kinds, what = "") {
   if (call(to.text, put(line), to.request) !== Code.OK || !kinds.includes(NAMES[numbers[at.request / 4]])) {
     throw new AgcError(Code.NOT_SPELLED, `${what && `${what}: `}${shown(line)}: ${lineFault(line, kinds)}`);
   }
-  return numbersAt(at.request, 4);
 }
 
 /** A plan's rows and entries in the module's memory. */
