@@ -863,6 +863,7 @@ function untilOf(until, from = 0) {
 function stolenOf(steal = 0) {
   if (typeof steal === "number") return steal === 0 ? [] : [[0, MOST, steal, 0, LAST_TIME]];
   return steal.map((/** @type {any} */ { from, to, percent, every, until }, /** @type {number} */ k) => {
+    if (to <= from) throw new AgcError(TIME_RANGE, `steal ${k + 1}: to is ${to}, and has to be above from, ${from}`);
     if (every >= to - from || every === undefined) return [from, to, percent, every ?? 0, untilOf(until)];
     const least = `as long as the row lasts, ${to - from}, or longer`;
     throw new AgcError(TIME_RANGE, `steal ${k + 1}: every is ${every}, and has to be ${least}`);

@@ -213,6 +213,7 @@ fn messages() -> Result<(), AgcError> {
         (event.event(8_640_001, 0, 0, &["tick"]), "event 2: at is 8640001, and may be 0 to 8640000"),
         (none().event(1, 0, 0, &[]), "event 1: do has to have 1 to 16 lines, and has 0"),
         (none().event(1, 0, 0, &["tick", "tick\n"]), r#"event 1: do 2: "tick\n": it has a line's end; give the line without it"#),
+        (none().steal(9, 9, 1), "steal 1: to is 9, and has to be above from, 9"),
         (none().steal(0, 9, 101), "steal 1: percent is 101, and may be 0 to 100"),
         (none().steal_every(0, 9, 1, 8, 0), "steal 1: every is 8, and has to be as long as the row lasts, 9, or longer"),
     ] {

@@ -149,6 +149,7 @@ function faultsNameTheirRow() {
   thrown(AgcError, () => new Clock({ seed: 1, job: [{ at: 1, cost }] }), "job 1: cost: from is 0, and may be 1 to 1000000");
   thrown(AgcError, () => new Clock({ seed: 1, job: [{ at: 1, cost: { from: 3, to: 2 } }] }), "job 1: cost: to is 2, and may not be less than from, 3");
   thrown(AgcError, () => new Clock({ job: [{ at: 1, cost: { from: 2, to: 3 } }] }), "job 1: its cost is by lot, and there is no seed");
+  thrown(AgcError, () => new Clock({ steal: [{ from: 9, to: 9, percent: 1 }] }), "steal 1: to is 9, and has to be above from, 9");
   const short = [{ from: 0, to: 9, percent: 1, every: 8 }];
   thrown(AgcError, () => new Clock({ steal: short }), "steal 1: every is 8, and has to be as long as the row lasts, 9, or longer");
   const costs = [1, 2, 3, 2, 1].map((at) => ({ at, cost: 1 }));

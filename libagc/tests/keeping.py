@@ -170,6 +170,7 @@ class Keeping(unittest.TestCase):
             (lambda: Clock.of_state({"timetable": {}, "at": [1]}), "at has to have 14 numbers, and has 1"),
             (lambda: Machine(plan={"phase": [entry, {**entry, "group": 2}, entry]}), "phase 3: a group's phase has two entries of the plan"),
             (lambda: Clock({"job": [{"at": k, "cost": 1} for k in (1, 2, 3, 2, 1)]}), "job 4: one address has two costs"),
+            (lambda: Clock({"steal": [{"from": 9, "to": 9, "percent": 1}]}), "steal 1: to is 9, and has to be above from, 9"),
             (lambda: Clock({"steal": [{"from": 0, "to": 9, "percent": 1, "every": 8}]}), "steal 1: every is 8, and has to be as long as the row lasts, 9, or longer"),
             (lambda: Clock({"job": [{"at": 1, "cost": {"from": 3, "to": 2}}], "seed": 1}), "job 1: cost: to is 2, and may not be less than from, 3"),
             (lambda: Clock({"job": [{"at": 1, "cost": {"from": 2, "to": 3}}]}), "job 1: its cost is by lot, and there is no seed"),

@@ -239,6 +239,8 @@ fn untidy_words() {
     for line in ["novac 20 02000 00005", "novac 30 02000 00005", "change", "list 10 02000 00005", "list 10 02000 00005"] {
         machine.ask(line).unwrap();
     }
+    let step = machine.ask("change").unwrap();
+    assert_eq!(format!("{step:?}"), "Step { kind: Runs, number: 2, fired: [], action: 0 }");
     assert_eq!(format!("{machine:?}"), "<Machine: job 2 runs; jobs: 2, tasks: 2, alarms: 0>");
     for (place, bits, name) in [(7, 1, "MODE of core set 0"), (22, 0o77777, "PUSHLOC of core set 1"), (91, 0o77777, "LST1 0")] {
         let mut words = machine.words().to_vec();
