@@ -15,11 +15,11 @@ export function start(source: BufferSource | WebAssembly.Module): Promise<void>;
  * Whether a request is served, with these counts before it: `Code.OK`, `Code.SPENT`, or
  * `Code.LOG_FULL`, which is the answer neither to a restart nor to a fresh start. A line that spells
  * no request is thrown.
- * @param {string} request
+ * @param {string | Asked} request
  * @param {Bounds} bounds
  * @returns {number}
  */
-export function refusalOf(request: string, bounds: Bounds): number;
+export function refusalOf(request: string | Asked, bounds: Bounds): number;
 /**
  * The lines of what a pulse of a device asks for, where `line` is "timer", "key" or "radar": a tick,
  * or what a plan has done for a key or a radar pulse, which is at most four actions.

@@ -631,12 +631,13 @@ export class Machine {
    * @returns {Step}
    */
   ask(request, ...given) {
-    if (request instanceof Asked) this.#spell(request.name, request.numbers);
-    else this.#spell(request, given);
+    const name = request instanceof Asked ? request.name : request;
+    const its = request instanceof Asked ? request.numbers : given;
+    this.#spell(name, its);
     this.#step(calls.agc_step_trusted);
     const code = numbers[at.answer / 4];
     if (code !== Code.OK) {
-      given.forEach((it, k) => numberOf(FORMS.get(request.toString())?.letters[k] ?? "", it));
+      its.forEach((it, k) => numberOf(FORMS.get(name)?.letters[k] ?? "", it));
       throw new AgcError(code);
     }
     this.#count();
@@ -813,14 +814,14 @@ function totalsOf(given) {
  * Whether a request is served, with these counts before it: `Code.OK`, `Code.SPENT`, or
  * `Code.LOG_FULL`, which is the answer neither to a restart nor to a fresh start. A line that spells
  * no request is thrown.
- * @param {string} request
+ * @param {string | Asked} request
  * @param {Bounds} bounds
  * @returns {number}
  */
 export function refusalOf(request, bounds) {
   isStarted();
   known("bounds", bounds, BOUNDS, BOUNDS);
-  read(request, REQUEST_KINDS);
+  read(request instanceof Asked ? request.text : request, REQUEST_KINDS);
   const counts = new DataView(calls.memory.buffer, at.bounds);
   BOUNDS.forEach((name, k) => {
     const it = Reflect.get(bounds, name);

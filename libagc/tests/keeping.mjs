@@ -88,6 +88,7 @@ function boundsRefuse() {
     want(found.every((it) => it === code), `${counts} of ${lines}: ${found}`);
   }
   const bounds = { served: 0, allowance: 1, logged: 0, limit: 1 };
+  want(refusalOf(new agc.Asked("prio", [1], null), bounds) === Code.OK, "what a clock gave");
   thrown(AgcError, () => refusalOf("tock", bounds), '"tock": its first word is unknown; did you mean "tick"?');
   thrown(AgcError, () => refusalOf("tick", { ...bounds, allowance: 2n ** 64n }), "bounds: allowance is 18446744073709551616, and may be 0 to 18446744073709551615");
   thrown(AgcError, () => refusalOf("tick", { ...bounds, logged: -1 }), "bounds: logged is -1, and may be 0 to 4294967295");
@@ -303,6 +304,7 @@ function messagesCanBeShown() {
     [() => machine.ask("list", 16251, 1, 1), "delay is 16251, and may be 1 to 16250"],
     [() => machine.ask("phase", 7, 1), "group is 7, and may be 1 to 6"],
     [() => machine.ask("novac", 2 ** 32 + 1, 1, 1), "priority is 40000000001 (octal), and may be 1 to 37"],
+    [() => machine.ask(new agc.Asked("prio", [0o40], null)), "priority is 40 (octal), and may be 1 to 37"],
     [() => machine.ask(""), '"": a line may not be empty'],
     [() => machine.ask("tick\r"), '"tick\\r": a line ends with LF alone, not with CR LF'],
     [() => machine.ask("novac 20"), '"novac 20": it has the form "novac P A W", with single spaces'],
