@@ -10,7 +10,7 @@
  */
 import { Kind } from "../libagc/js/machine.js";
 import { actionOf } from "./because.js";
-import { alarmsOf } from "./chart.js";
+import { alarmsOf } from "./drawing-words.js";
 import { LOG_FULL, SPENT } from "./run.js";
 import { FIRST_ASKED } from "./first.js";
 import { PLACES, counted, octal, seconds, visible } from "./words.js";

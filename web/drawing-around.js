@@ -9,8 +9,7 @@ import { restartOf, whenOf } from "./drawing-words.js";
 import { visible } from "./words.js";
 
 /** How much larger a title is than the rest, and how many names a legend tells. */
-const TITLE = 1.5;
-const MOST_NAMED = 16;
+const [TITLE, MOST_NAMED] = [1.5, 16];
 
 /** The title, as much of it as there is room for. @param {Sheet} sheet */
 export function drawTitle(sheet) {
@@ -49,11 +48,9 @@ export function drawEvents(sheet) {
 export function drawCodes(sheet) {
   const { run, line, size } = sheet;
   const alarms = sheet.seen(run.alarms);
-  // (the last one has its code on the left, where it has no room on the right)
-  const room = (/** @type {number} */ wide) => alarms.every(({ x }, k) => (k + 1 < alarms.length ? alarms[k + 1].x - x > wide
-    : x + wide < sheet.width || x - (alarms[k - 1]?.x ?? 0) > 2 * wide));
-  const [isLong, isShort] = ["alarm 0000", "0000"].map((it) => room(textWidth(it, size, true) + 6));
-  const levels = isShort ? 1 : 2;
+  const gap = Math.min(...alarms.map(({ x }, k) => x - (alarms[k - 1]?.x ?? -Infinity)));
+  const [isLong, isFar] = ["alarm 0000", "0000"].map((it) => gap > 2 * textWidth(it, size, true) + 8);
+  const levels = isFar ? 1 : 2;
   sheet.top = sheet.y + (levels - 1) * line;
   // (the lines of all alarms go through the lowest level, and above it only its own)
   for (const { x } of alarms) sheet.taken.push([x - 1, x + 1, sheet.top, sheet.top + line]);
@@ -71,7 +68,7 @@ export function drawCodes(sheet) {
 export function drawLines(sheet) {
   const { run, top, y, left, right } = sheet;
   sheet.bottom = y;
-  for (const it of sheet.has("notes") ? sheet.bands : []) {
+  for (const it of sheet.parts.has("notes") ? sheet.bands : []) {
     if (it.kind === "set") sheet.rect([left, it.top + 2, right - left, it.bottom - it.top - 4], "track", undefined, 0);
   }
   for (const { place } of sheet.scale.marks(right - left)) {
@@ -105,7 +102,14 @@ export function drawAxis(sheet) {
 
 /** What the marks mean, and whose each colour is: entries one after the other, in lines. @param {Sheet} sheet */
 export function drawLegend(sheet) {
-  const { marks, size, line } = sheet;
+  const { size, line } = sheet;
+  const marks = sheet.layers.flat();
+  const { at, count } = sheet.run.lanes.jobs;
+  /** @type {Map<string, string>} */
+  const named = new Map();
+  for (let id = 1; id < count && named.size < MOST_NAMED; id++) named.set(sheet.jobName(at.items[id]), `b${sheet.colours.of(at.items[id])}`);
+  // (where some have names, those without one are told on their blocks alone)
+  const withName = [...named].filter(([name]) => !/^[0-7]{5}$/.test(name));
   const isThere = (/** @type {RegExp} */ fill) => marks.some((it) => fill.test(it.fill ?? ""));
   const lines = marks.filter((it) => it.kind === "path" && typeof it.told === "string" && it.fill === undefined);
   const entries = [
@@ -113,7 +117,7 @@ export function drawLegend(sheet) {
     ...(marks.some((it) => it.kind === "path" && it.isHatch) ? [{ text: "it sleeps", fill: "p7", hatch: "b7" }] : []),
     ...[["alarm", "alarm"], ["ink", "restart or fresh start"]].flatMap(([stroke, text]) =>
       lines.flatMap((it) => (it.kind === "path" && it.stroke === stroke ? { text, line: it } : [])).slice(0, 1)),
-    ...namedJobs(sheet).map(([text, colour]) => ({ text, fill: `b${colour}` })),
+    ...(withName.length > 0 ? withName : [...named]).map(([text, fill]) => ({ text, fill })),
   ];
   let [x, y] = [8, sheet.y + 8];
   for (const { text, fill, hatch, line: like } of /** @type {{ text: string, fill?: string, hatch?: string, line?: any }[]} */ (entries)) {
@@ -127,14 +131,4 @@ export function drawLegend(sheet) {
     x += width + 18;
   }
   sheet.y = y + line;
-}
-
-/** The first jobs with their colours; where some have names, those without one are told on their blocks alone. @param {Sheet} sheet */
-function namedJobs(sheet) {
-  const { at, count } = sheet.run.lanes.jobs;
-  /** @type {Map<string, number>} */
-  const named = new Map();
-  for (let id = 1; id < count && named.size < MOST_NAMED; id++) named.set(sheet.jobName(at.items[id]), sheet.colours.of(at.items[id]));
-  const withName = [...named].filter(([name]) => !/^[0-7]{5}$/.test(name));
-  return withName.length > 0 ? withName : [...named];
 }

@@ -8,16 +8,16 @@
  */
 import { causeOf, needsOf } from "./because.js";
 import { textWidth } from "./drawing-pens.js";
-import { budgetOf, partAsked, workOf } from "./work.js";
+import { budgetOf, countsOf, partAsked } from "./work.js";
 import { seconds } from "./words.js";
 
-/** How many lanes the work that waits is high, and how many lines of text the budget; and half a second, in hundredths of a centisecond. */
+/** How many lanes the work is high, and how many lines of text the budget; and the least work at the top. */
 const [WORK_LANES, BUDGET_LINES, LEAST_WORK] = [3.4, 1.4, 5_000];
 
-/** The budget's bar ends with a multiple of so many percent, and at least here. How wide a plot is at least whose sum says of what it is. */
+/** The budget's bar ends with a multiple of so many percent, and at least here; and how wide its plot is at least. */
 const [STEP, LEAST_BAR, LEAST_TOLD] = [25, 125, 500];
 
-/** How much of the way to the alarm a note at the curve has, above what has not climbed yet; and how wide a plot with its arrow is at least. */
+/** How much of the way to the alarm a note at the curve has; and how wide a plot with its arrow is at least. */
 const [ROOM, LEAST_WIDE] = [0.62, 400];
 
 /** The most that a job costs, and how far it is dragged at least, in centiseconds. */
@@ -25,13 +25,12 @@ const [MOST_COST, LEAST_RANGE] = [1_000_000, 400];
 
 /** @param {Sheet} sheet */
 export function drawWork(sheet) {
-  const { run, count, scale, before, size, y: begins } = sheet;
-  const work = workOf(run, count);
-  if (work === null || !scale.isTime) return;
-  const other = before === null ? null : workOf(before.run, before.count);
+  const { run, count, scale, before, size, left, right, y: begins } = sheet;
+  if (run.bench.job.length === 0 || !scale.isTime) return;
+  const work = countsOf(run, count);
   const [top, bottom] = [begins + 4, begins + Math.round(WORK_LANES * sheet.view.high)];
-  const most = 1.15 * Math.max(work.most, other?.most ?? 0, LEAST_WORK);
-  const yOf = (/** @type {number} */ hundredths) => bottom - (hundredths / most) * (bottom - top);
+  const highest = 1.15 * Math.max(work.most, before === null ? 0 : countsOf(before.run, before.count).most, LEAST_WORK);
+  const yOf = (/** @type {number} */ hundredths) => bottom - (hundredths / highest) * (bottom - top);
   const points = curve(sheet, scale, yOf);
   sheet.bands.push({ kind: "work", top: begins, bottom });
   sheet.name("work", bottom - size * 2);
@@ -40,32 +39,21 @@ export function drawWork(sheet) {
     sheet.path([[points[0][0], bottom], ...points, [points[points.length - 1][0], bottom]],
       { fill: "work", stroke: "curve", width: 1.5, told: "seconds of computing that jobs still need" });
   }
-  if (before !== null && other !== null) sheet.path(curve(sheet, before, yOf), { stroke: "soft", isDashed: true });
-  drawMost(sheet, points, bottom, most);
+  if (before !== null) sheet.path(curve(sheet, before, yOf), { stroke: "soft", isDashed: true });
+  // (the greatest work that is seen is told at its place)
+  const [x, y] = points.reduce((best, it) => (it[1] < best[1] ? it : best), [right, bottom]);
+  const [most, at] = [seconds((highest * (bottom - y)) / (bottom - top) / 100), Math.max(y - 0.5 * size, begins + 0.6 * size)];
+  const isLeft = x - 8 - textWidth(most, size) > left;
+  if (bottom - y >= 2 && !(isLeft && sheet.text(most, x - 5, at, { anchor: "end" }))) sheet.text(most, x + 5, at);
   noteWork(sheet, top + 0.6 * size, points, yOf);
-  if (work.full < Infinity) drawLevel(sheet, yOf(work.full));
+  // (the least work with which a table became full, told where there is room after the last alarm)
+  const last = sheet.seen(run.alarms).at(-1)?.x ?? left;
+  const text = sheet.fitting(["room can run out", "can run out"], right - last - 8) ?? "";
+  if (work.full < Infinity) {
+    sheet.path([[left, yOf(work.full)], [right, yOf(work.full)]], { stroke: "faint", isDashed: true });
+    sheet.text(text, right - 2, yOf(work.full) - 0.7 * size, { anchor: "end", fill: "soft" });
+  }
   sheet.y = bottom + 4;
-}
-
-/** The least work with which a table became full, told where there is room: after the last alarm, or at the beginning. @param {Sheet} sheet @param {number} y */
-function drawLevel(sheet, y) {
-  const { left, right, size } = sheet;
-  sheet.path([[left, y], [right, y]], { stroke: "faint", isDashed: true });
-  const texts = ["room can run out", "can run out"];
-  const last = sheet.seen(sheet.run.alarms).at(-1)?.x ?? left;
-  const after = sheet.fitting(texts, right - last - 8) ?? "";
-  const isTold = after !== "" && sheet.text(after, right - 2, y - 0.7 * size, { anchor: "end", fill: "soft" });
-  if (!isTold) sheet.text(texts[0], left + 6, y - 0.7 * size, { fill: "soft" });
-}
-
-/** The greatest work that is seen, told at its place. @param {Sheet} sheet @param {number[][]} points @param {number} bottom @param {number} most what the band's height is */
-function drawMost(sheet, points, bottom, most) {
-  const [x, y] = points.reduce((best, it) => (it[1] < best[1] ? it : best), [sheet.right, bottom]);
-  if (bottom - y < 2) return;
-  const text = seconds((most * (bottom - y)) / (bottom - sheet.y - 4) / 100);
-  const at = Math.max(y - 0.5 * sheet.size, sheet.y + 0.6 * sheet.size);
-  const isLeft = x - 8 - textWidth(text, sheet.size) > sheet.left;
-  if (!isLeft || !sheet.text(text, x - 5, at, { anchor: "end" })) sheet.text(text, x + 5, at);
 }
 
 /**
@@ -163,7 +151,7 @@ const known = new WeakMap();
 /** Why the first alarm that is seen came; null where none is, or nothing explains it. @param {Sheet} sheet */
 function causeSeen(sheet) {
   const { run } = sheet;
-  const [first] = sheet.has("notes") && sheet.scale.isTime ? sheet.seen(run.alarms) : [];
+  const [first] = sheet.parts.has("notes") && sheet.scale.isTime ? sheet.seen(run.alarms) : [];
   if (first === undefined) return null;
   const found = known.get(run) ?? new Map();
   known.set(run, found);
@@ -185,7 +173,7 @@ function noteWork(sheet, y, points, yOf) {
   const text = sheet.fitting([`each ${sheet.jobName(cause.at)} adds ${needs} of work, but only ${gets} gets done`,
     `+${needs} of work, ${gets} done`, `+${needs} each, ${gets} done`], room);
   // (it holds since the oldest of those jobs is there)
-  const since = sheet.xOfRow(cause.since);
+  const since = sheet.xOf(sheet.scale.placeOf(cause.since));
   if (text === undefined || since > left + room || !sheet.text(text, left + 6, y, { isBold: true })) return;
   const high = 0.9 * (yOf(0) - yOf(100 * cause.cost));
   const [x, top] = points.find(([at, to], k) => k > 0 && at > since - 2 && at - points[k - 1][0] < 1 && to < points[k - 1][1] - high) ?? [Infinity, 0];

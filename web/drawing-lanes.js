@@ -1,25 +1,25 @@
 /**
  * The lanes of a picture: a log each of core sets, VAC areas and places of the Waitlist, whose entries are
  * blocks (bright: running; pale: waiting; hatched: asleep); a strip each for how many areas and tasks there
- * are, for stolen and idle time; and the core sets of the run before.
+ * are, for stolen and idle time; the core sets of the run before; and what asked for the selected job or task.
  *
  * @typedef {import("./drawing.js").Sheet} Sheet
  * @typedef {import("./lanes.js").Kind} Kind
  * @typedef {import("./drawing-scale.js").Scale} Scale
+ * @typedef {import("./drawing.js").Selection} Selection
+ * @typedef {{ x: number, y: number, name: string }} Point
  * @typedef {{ fill: string, share?: number, texts?: string[], look?: import("./drawing.js").Look & { ground?: string },
  *   hatch?: string, told?: import("./drawing.js").Told, job?: import("./lanes.js").Block }} Block `share`: of the height
  */
 import { short } from "./because.js";
-import { outcomeOf } from "./chart.js";
+import { outcomeOf } from "./drawing-words.js";
 import { MOST, State } from "./lanes.js";
 import { stolenParts } from "./stolen.js";
-import { octal } from "./words.js";
+import { octal, visible } from "./words.js";
 
-/** How wide a block is at least that is drawn by itself, one with a title, and one that doesn't touch what follows; and how far it stays away. */
-const [LEAST_BLOCK, LEAST_TOLD, LEAST_APART, APART] = [0.8, 3, 3, 0.7];
-
-/** Half the width of a mark of a deadline; and how far away that is at least, or none is drawn. */
-const [MARK, LEAST_MARKED] = [4, 10];
+/** How wide a block is at least that is drawn by itself, one with a title, and one that doesn't touch what follows, and how far
+ * it stays away; half the width of a deadline's mark, and how far away that is at least, or none is drawn. */
+const [LEAST_BLOCK, LEAST_TOLD, LEAST_APART, APART, MARK, LEAST_MARKED] = [0.8, 3, 3, 0.7, 4, 10];
 
 /**
  * Draws the entries of a log that are seen. Of those that are too brief one is drawn in each point, and what is higher.
@@ -110,7 +110,7 @@ function blockOf(sheet, kind, k, entry, scale = sheet.scale) {
   if (job.state === State.SLEEPS) {
     return { ...pale, texts: [`${name ?? `job ${number}`}, asleep`, ...texts], look: { fill: "pale", ground: pale.fill }, hatch: `b${colour}` };
   }
-  const waits = sheet.has("notes") && scale.isTime ? [`${sheet.jobName(at)} waits ${short(scale.endOf(job.to) - scale.placeOfKey(job.from))}`] : [];
+  const waits = sheet.parts.has("notes") && scale.isTime ? [`${sheet.jobName(at)} waits ${short(scale.endOf(job.to) - scale.placeOfKey(job.from))}`] : [];
   return { ...pale, texts: [...waits, ...texts], look: { fill: "pale" } };
 }
 
@@ -118,7 +118,15 @@ function blockOf(sheet, kind, k, entry, scale = sheet.scale) {
 const STRIPS = {
   areas: (sheet, lane) => drawTaken(sheet, "area", lane),
   tasks: (sheet, lane) => drawTaken(sheet, "task", lane),
-  stolen: drawStolen,
+  stolen(sheet, [top, high]) {
+    const { run, scale } = sheet;
+    const column = (scale.to - scale.from) / (sheet.right - sheet.left);
+    for (const { from, to, percent } of scale.isTime ? stolenParts(run.bench.steal, scale.from, scale.to, column) : []) {
+      const [left, right] = [from, to].map((it) => sheet.clip(sheet.xOf(it)));
+      const block = { fill: "stolen", share: (0.95 * percent) / 100, texts: [`${percent} %`], told: `${percent} % stolen` };
+      if (right > left && percent > 0) drawBlock(sheet, block, [left, right, top, high]);
+    }
+  },
   // (no job runs where core set 0 is free, or its job sleeps)
   idle: (sheet, [top, high]) => drawLog(sheet, sheet.run.lanes.logs.set[0], [top + 3, high - 6],
     (entry) => (sheet.run.lanes.block(0, entry)?.state === State.RUNS ? null : { fill: "idle" })),
@@ -149,17 +157,6 @@ function drawTaken(sheet, kind, lane) {
   });
 }
 
-/** @param {Sheet} sheet @param {number[]} lane */
-function drawStolen(sheet, [top, high]) {
-  const { run, scale } = sheet;
-  const column = (scale.to - scale.from) / (sheet.right - sheet.left);
-  for (const { from, to, percent } of scale.isTime ? stolenParts(run.bench.steal, scale.from, scale.to, column) : []) {
-    const [left, right] = [from, to].map((it) => sheet.clip(sheet.xOf(it)));
-    const block = { fill: "stolen", share: (0.95 * percent) / 100, texts: [`${percent} %`], told: `${percent} % stolen` };
-    if (right > left && percent > 0) drawBlock(sheet, block, [left, right, top, high]);
-  }
-}
-
 /** The core sets of the run before, half as high. @param {Sheet} sheet */
 export function drawBefore(sheet) {
   const { before: scale, y, line } = sheet;
@@ -170,12 +167,70 @@ export function drawBefore(sheet) {
   sheet.text(outcomeOf(run, count), sheet.left, y + line / 2, { fill: "soft" });
   const top = sheet.y += line;
   run.lanes.logs.set.forEach((log, k) => {
-    drawLog(sheet, log, [sheet.y + 1, half - 2], (entry) => {
-      const block = blockOf(sheet, "set", k, entry, scale);
-      return block === null ? null : { fill: block.fill, hatch: block.hatch };
-    }, scale);
+    const plain = (/** @type {Block | null} */ it) => it && { fill: it.fill, hatch: it.hatch };
+    drawLog(sheet, log, [sheet.y + 1, half - 2], (entry) => plain(blockOf(sheet, "set", k, entry, scale)), scale);
     sheet.y += half;
   });
   for (const { x } of sheet.seen(run.alarms, scale)) sheet.path([[x, top], [x, sheet.y]], { stroke: "alarm", width: 1.5 });
   sheet.y += 4;
+}
+
+/** Where a selected job or task came from: an arrow from what asked for it, and from a task arrows to the jobs that it asked for itself. @param {Sheet} sheet */
+export function drawSelection(sheet) {
+  const { view: { selection }, scale, run: { lanes: { jobs, tasks } } } = sheet;
+  if (selection === null) return;
+  const { kind, id } = selection;
+  const { born, at } = kind === "job" ? jobs : tasks;
+  const point = pointOf(sheet, selection);
+  const begun = born.items[id] >> 1;
+  const asker = begun === 0 ? null : askerOf(sheet, begun, at.items[id]);
+  const from = asker === null ? { y: sheet.top, name: visible(sheet.run.whoAsked(begun)).replace(/^event /, "") } : pointOf(sheet, asker);
+  if (begun > 0) arrow(sheet, { ...from, x: sheet.xOf(sheet.scale.placeOf(begun)) }, point);
+  if (kind === "job") return;
+  const due = { ...point, x: sheet.clip(sheet.xOf(scale.endOf(tasks.gone.items[id]))) };
+  sheet.path([[sheet.clip(point.x), point.y], [due.x, due.y]], { stroke: "ink", width: 3 }, 2);
+  const row = tasks.gone.items[id] >> 1;
+  const isAsked = (/** @type {number} */ job) => row > 0 && jobs.born.items[job] >> 1 === row && askerOf(sheet, row, jobs.at.items[job])?.id === id;
+  for (const job of jobs.which(isAsked)) arrow(sheet, due, pointOf(sheet, { kind: "job", id: job }));
+}
+
+/** Where a job begins, or a task to wait. @param {Sheet} sheet @param {Selection} of @returns {Point} */
+function pointOf(sheet, { kind, id }) {
+  const { born, place, at } = sheet.run.lanes[`${kind}s`];
+  const lane = sheet.bands.find((it) => (it.kind === (kind === "job" ? "set" : "task") && it.k === place.items[id])
+    || (kind === "task" && it.kind === "strip" && it.name === "tasks"));
+  const y = lane === undefined ? sheet.y : (lane.top + lane.bottom) / 2;
+  return { x: sheet.xOf(sheet.scale.placeOfKey(born.items[id])), y, name: kind === "job" ? sheet.jobName(at.items[id]) : sheet.taskName(id) };
+}
+
+/**
+ * Who asked for a job or a task in a row: the task that came due, or the job that ran; null where it
+ * was an event, a script or a hand.
+ * @param {Sheet} sheet @param {number} row @param {number} at where it begins
+ * @returns {Selection | null}
+ */
+function askerOf({ run }, row, at) {
+  const { tasks } = run.lanes;
+  if (run.lines[row] !== "tick") {
+    const runner = run.lanes.blockAt(0, Math.max(1, 2 * row - 1));
+    return run.whoAsked(row) === "the clock" && runner !== null ? { kind: "job", id: runner.id } : null;
+  }
+  const due = tasks.which((id) => tasks.gone.items[id] >> 1 === row).reverse();
+  const asks = (/** @type {number} */ id) => run.bench.task.some((it) => parseInt(it.at, 8) === tasks.at.items[id]
+    && it.action.some((line) => line.split(" ").includes(octal(at, 5))));
+  const id = due.find(asks) ?? due[0];
+  return id === undefined ? null : { kind: "task", id };
+}
+
+/** An arrow between two points that are seen, with who asks for whom. @param {Sheet} sheet @param {Point} from @param {Point} to */
+function arrow(sheet, from, to) {
+  if ([from, to].some(({ x }) => Math.abs(x - sheet.clip(x)) > 1)) return;
+  const side = from.x - 26 > sheet.left ? -1 : 1;
+  const middle = [(from.x + to.x) / 2 + 26 * side, (from.y + to.y) / 2];
+  for (const look of [{ stroke: "paper", width: 5 }, { stroke: "ink", width: 2 }]) {
+    sheet.path([[from.x, from.y], middle, [to.x, to.y]], { ...look, isArrow: true }, 2);
+  }
+  const text = from.name === to.name ? from.name : `${from.name} → ${to.name}`;
+  const look = /** @type {const} */ ({ anchor: side < 0 ? "end" : "start", isBold: true, ground: "paper" });
+  [0, 1, -1, 2, -2].some((shift) => sheet.text(text, middle[0] - 7 * side, middle[1] + shift * sheet.line, look));
 }

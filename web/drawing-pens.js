@@ -19,7 +19,6 @@ const WIDTHS = [
 /** What a letter beyond ASCII takes, and one beyond the first plane or of East Asia; and how much broader bold is. */
 const [OTHER, BROAD, FIRST_BROAD, BOLD] = [78, 130, 0x1100, 1.12];
 
-const FONT = "system-ui, sans-serif";
 const ENTITIES = /** @type {Record<string, string>} */ ({ "&": "&amp;", "<": "&lt;", ">": "&gt;", '"': "&quot;", "'": "&#39;" });
 
 /** How wide a text is at most, in points. @param {string} text @param {number} size @param {boolean} [isBold] */
@@ -72,7 +71,7 @@ export function paint(canvas, { width, height, theme = "light", marks }) {
     context.fillStyle = palette[mark.fill ?? "paper"];
     if (mark.kind === "rect") context.fillRect(mark.x, mark.y, mark.width, mark.height);
     else if (mark.kind === "text") {
-      context.font = `${mark.isBold ? "bold " : ""}${mark.size}px ${FONT}`;
+      context.font = `${mark.isBold ? "bold " : ""}${mark.size}px system-ui, sans-serif`;
       context.textAlign = mark.anchor === "middle" ? "center" : mark.anchor ?? "start";
       context.fillText(mark.text, mark.x, mark.y);
     } else {

@@ -5,11 +5,9 @@
  */
 import { lastUpTo, lastWhere } from "./lanes.js";
 
-/** The least part that is zoomed to, in ticks or requests; and up to how many requests of a bench have a column each, even if time goes by. */
-const [LEAST_SPAN, FEW] = [20, 120];
-
-/** How far two marks of an axis are apart at least, in points: of seconds, and of requests. */
-const APART = [90, 45];
+/** The least part that is zoomed to, in ticks or requests; up to how many requests of a bench have a column each, even if
+ * time goes by; and how far two marks of an axis are apart at least, in points: of seconds, and of requests. */
+const [LEAST_SPAN, FEW, APART] = [20, 120, [90, 45]];
 
 export class Scale {
   /** @param {import("./run.js").Run} run @param {number} count @param {import("./run.js").Run} [over] whose restarts have columns */
@@ -86,17 +84,13 @@ export class Scale {
   /** The marks of an axis this wide: round numbers of seconds, or of requests. @param {number} width in points */
   marks(width) {
     const most = Math.max(2, Math.floor(width / APART[this.isTime ? 0 : 1]));
-    const step = stepOf(Math.max((this.to - this.from) / most, this.isTime ? 0 : 1));
+    const least = Math.max((this.to - this.from) / most, 1);
+    const ten = 10 ** Math.floor(Math.log10(least));
+    const step = [1, 2, 5].map((it) => it * ten).find((it) => it >= least) ?? 10 * ten;
     const first = Math.ceil(this.from / step);
     return Array.from({ length: Math.max(0, Math.floor(this.to / step) - first + 1) }, (_, k) => {
       const at = (first + k) * step;
       return this.isTime ? { place: at, text: `${at / 100} s` } : { place: this.placeOf(at), text: String(at) };
     }).filter(({ place }) => place >= this.from && place <= Math.min(this.to, this.placeOf(this.count)));
   }
-}
-
-/** The least round number that is as much or more. @param {number} least */
-function stepOf(least) {
-  const ten = 10 ** Math.floor(Math.log10(Math.max(1, least)));
-  return [1, 2, 5, 10].map((it) => it * ten).find((it) => it >= least) ?? 10 * ten;
 }

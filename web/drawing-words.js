@@ -1,18 +1,26 @@
 /**
- * What is said of a place in a picture, and of its marks: who is there, since when, and what ended it. Each
- * is a list of lines.
+ * What is said of a run: how full its tables were, and its alarms; and of a place in its picture, and of
+ * marks: who is there, since when, and what ended it, each as a list of lines.
  *
  * @typedef {import("./run.js").Run} Run
  * @typedef {import("./drawing.js").Sheet} Sheet
  * @typedef {import("./lanes.js").Kind} Kind
  */
+import { MOST_ROWS, SPENT } from "./run.js";
 import { stolenAt } from "./stolen.js";
-import { octal, seconds } from "./words.js";
-
-const STATES = ["", "runs", "waits", "sleeps"];
+import { countsOf } from "./work.js";
+import { counted, octal, seconds } from "./words.js";
 
 /** What each lane is called, by its number. @type {Record<Kind, (k: number) => string>} */
 const PLACES = { set: (k) => `core set ${k}`, area: (k) => `VAC area ${k + 1}`, task: () => "Waitlist" };
+
+/** What a strip tells of a row. @type {Record<string, (run: Run, row: number) => string>} */
+const STRIPS = {
+  areas: (run, row) => `${run.useAt(row).areas} of 5 VAC areas in use`,
+  tasks: (run, row) => `${run.useAt(row).tasks} of 9 places of the Waitlist in use`,
+  stolen: (run, row) => `${stolenAt(run.bench.steal, run.ticksAt(row))} % of the time is stolen`,
+  idle: (run, row) => (run.useAt(row).idle === 1 ? "no job runs" : "a job runs"),
+};
 
 /** A request, with its time if it has one: `26.01 s (request 2705)`. @param {Run} run @param {number} row */
 export function whenOf(run, row) {
@@ -56,19 +64,8 @@ function tellWho({ run, names }, kind, id, key) {
   if (kind === "task") return [`task ${names.ofTask({ at: at.items[id], bank: bank.items[id] })}`, ...spanOf(run, "tasks", id)];
   const block = lanes.logs.set.map((_, k) => lanes.blockAt(k, key)).find((it) => it?.id === id);
   const moved = block === undefined || block?.now === at.items[id] ? "" : ` at ${names.ofJob(block?.now ?? 0)}`;
-  const how = !block ? [] : [`priority ${octal(block.priority, 2)}, ${STATES[block.state]}${moved}${block.area === 0 ? "" : `, VAC area ${block.area}`}`];
+  const how = !block ? [] : [`priority ${octal(block.priority, 2)}, ${["", "runs", "waits", "sleeps"][block.state]}${moved}${block.area === 0 ? "" : `, VAC area ${block.area}`}`];
   return [`job ${more.items[id]}, ${names.ofJob(at.items[id])}`, ...how, ...spanOf(run, "jobs", id)];
-}
-
-/** How much of a table is in use after a row, or what else a strip tells of it. @param {Run} run @param {string} name @param {number} row */
-function tellStrip(run, name, row) {
-  const use = run.useAt(row);
-  switch (name) {
-    case "areas": return `${use.areas} of 5 VAC areas in use`;
-    case "tasks": return `${use.tasks} of 9 places of the Waitlist in use`;
-    case "stolen": return `${stolenAt(run.bench.steal, run.ticksAt(row))} % of the time is stolen`;
-    default: return use.idle === 1 ? "no job runs" : "a job runs";
-  }
 }
 
 /** What a mark is about; nothing where it needs no words. @param {Sheet} sheet @param {import("./drawing.js").Told} [told] @returns {string[]} */
@@ -103,7 +100,41 @@ export function hitAt(sheet, x, y) {
     }
     case "work": return { kind, row, text: `${when}: jobs still need ${seconds(run.columns.waiting.items[row] / 100)} of computing` };
     case "alarm": return { kind, row: own, text: `${restartOf(run, own)}\n${whenOf(run, own)}` };
-    case "strip": return { kind, name, row, text: `${when}: ${tellStrip(run, name ?? "", row)}` };
+    case "strip": return { kind, name, row, text: `${when}: ${STRIPS[name ?? ""](run, row)}` };
     default: return { kind, name, row: band.row, edge, text };
   }
+}
+
+/** The first rows of a run in words, for who can't see the chart. A clock stops at the most rows that a run has. @param {Run} run @param {number} count */
+export function summaryOf(run, count) {
+  const [sets, areas, tasks] = countsOf(run, count).used;
+  const cut = count < MOST_ROWS ? "" : ` The page runs no more than ${counted(MOST_ROWS, "request")}.`;
+  const ticks = run.ticksAt(count);
+  // (from so many ticks on they are a time)
+  return `Over ${ticks >= 20 ? seconds(ticks) : counted(Math.max(1, count), "request")}: at most ${sets} of ${run.sets} core sets, `
+    + `${areas} of 5 areas and ${tasks} of 9 tasks at once; ${alarmsOf(run, count)}.${cut}`;
+}
+
+/** How many alarms the first rows of a run have, and which is the first. @param {Run} run @param {number} count */
+export function alarmsOf(run, count) {
+  const alarms = run.alarms.filter((row) => row <= count);
+  if (alarms.length === 0) return `no alarm${refusedOf(run, count)}`;
+  const [row] = alarms;
+  const time = run.ticksAt(row) > 0 ? ` at ${seconds(run.ticksAt(row))}` : "";
+  return `${counted(alarms.length, "alarm")}${alarms.length > 1 ? ", the first one" : ":"} ${octal(run.columns.numbers.items[row], 4)}, `
+    + `in request ${row}${time}${refusedOf(run, count)}`;
+}
+
+/** How many of the first rows were refused, and from which on; nothing where none was. @param {Run} run @param {number} count */
+function refusedOf(run, count) {
+  const rows = run.refused.filter((row) => row <= count);
+  if (rows.length === 0) return "";
+  const why = run.columns.kinds.items[rows[0]] === SPENT ? "the allowance was used up" : "the log was full";
+  const where = rows.length === 1 ? `request ${rows[0]}` : `from request ${rows[0]} on`;
+  return `; ${counted(rows.length, "request")} refused, ${where}, since ${why}`;
+}
+
+/** What came of a run, to compare it with another: its alarms, and how full the core sets were. @param {Run} run @param {number} count */
+export function outcomeOf(run, count) {
+  return `${alarmsOf(run, count)}; at most ${countsOf(run, count).used[0]} of ${run.sets} core sets`;
 }

@@ -5,10 +5,9 @@
  * same arguments make the same picture: nothing is measured, and no page is needed.
  *
  * @typedef {import("./run.js").Run} Run
- * @typedef {{ run: Run, count: number }} Part
  * @typedef {{ kind: "job" | "task", id: number }} Selection
  * @typedef {{ width: number, from?: number, to?: number, high?: number, text?: number, strips?: string[],
- *   opened?: string[], parts?: string[], selection?: Selection | null, before?: Part | null,
+ *   opened?: string[], parts?: string[], selection?: Selection | null, before?: { run: Run, count: number } | null,
  *   theme?: "light" | "dark" | "forced", names?: Names, colours?: Colours, isStill?: boolean,
  *   isBare?: boolean, title?: string }} View `isStill`: it doesn't change, so what is empty all the time may
  *   be thin; `isBare`: it has no text, and all of its width is the run's
@@ -28,9 +27,8 @@ import { Names } from "./account.js";
 import { Colours } from "./colours.js";
 import { drawAxis, drawCodes, drawEvents, drawLegend, drawLines, drawTitle } from "./drawing-around.js";
 import { drawBudget, drawWork, noteAlarm } from "./drawing-bands.js";
-import { drawBefore, drawLanes, drawStrips } from "./drawing-lanes.js";
+import { drawBefore, drawLanes, drawSelection, drawStrips } from "./drawing-lanes.js";
 import { Scale } from "./drawing-scale.js";
-import { drawSelection } from "./drawing-selection.js";
 import { textWidth } from "./drawing-pens.js";
 import { lastWhere } from "./lanes.js";
 import { octal } from "./words.js";
@@ -59,6 +57,8 @@ export class Sheet {
   /** What lies below the lanes, they themselves, and what lies above them. */
   layers = /** @type {Mark[][]} */ ([[], [], []]);
   bands = /** @type {Band[]} */ ([]);
+  marks = /** @type {Mark[]} */ ([]);
+  height = 0;
   /** Where texts are: left, right, top and bottom; and where the lines of those alarms begin that are named. */
   taken = /** @type {number[][]} */ ([]);
   tops = /** @type {Map<number, number>} */ (new Map());
@@ -67,7 +67,8 @@ export class Sheet {
   constructor(run, count, view) {
     this.run = run;
     this.count = count;
-    this.view = { parts: PARTS, strips: STRIPS, opened: [], selection: null, before: null, high: HIGH, ...view };
+    this.parts = new Set(view.parts ?? PARTS);
+    this.view = { strips: STRIPS, opened: [], selection: null, before: null, high: HIGH, ...view };
     this.theme = view.theme ?? "light";
     this.names = view.names ?? new Names(run.bench);
     this.colours = view.colours ?? new Colours(run.bench, this.names);
@@ -84,27 +85,9 @@ export class Sheet {
     this.right = Math.max(this.left + 20, this.width - (view.isBare ? 0 : MARGIN));
   }
 
-  get height() {
-    return Math.ceil(this.y);
-  }
-
-  get marks() {
-    return this.layers.flat();
-  }
-
-  /** @param {string} part */
-  has(part) {
-    return this.view.parts.includes(part);
-  }
-
   /** Where a place is across. @param {number} place */
   xOf(place) {
     return this.left + this.scale.partOf(place) * (this.right - this.left);
-  }
-
-  /** Where a row is across: beyond the plot, where it isn't seen. @param {number} row */
-  xOfRow(row) {
-    return this.xOf(this.scale.placeOf(row));
   }
 
   /** Which part of the width a point is at, and which place. @param {number} x */
@@ -151,7 +134,7 @@ export class Sheet {
     if (high < this.size + 2) return false;
     const [text, short] = [BESIDE, LEAST_BESIDE].map((it) => this.fitting(texts, right - left - it));
     if (text !== undefined) return this.text(text, left + BESIDE / 2, top + high / 2, look);
-    return short !== undefined && this.text(short, (left + right) / 2, top + high / 2, { ...look, anchor: "middle" });
+    return this.text(short ?? "", (left + right) / 2, top + high / 2, { ...look, anchor: "middle" });
   }
 
   /** The first of these texts that has room. @param {string[]} texts @param {number} room */
@@ -197,7 +180,7 @@ export class Sheet {
    * @param {string} text @param {number} x @param {number} y @param {Look & { ground?: string }} look
    */
   text(text, x, y, { anchor = "start", fill = "ink", isBold = false, size = this.size, ground } = {}) {
-    if (this.view.isBare) return false;
+    if (this.view.isBare || text === "") return false;
     const width = textWidth(text, size, isBold);
     const left = x - { start: 0, middle: width / 2, end: width }[anchor];
     const box = [left - 1, left + width + 1, y - 0.55 * size, y + 0.55 * size];
@@ -218,6 +201,6 @@ export class Sheet {
 /** The picture of the first rows of a run. @param {Run} run @param {number} count @param {View} view */
 export function pictureOf(run, count, view) {
   const sheet = new Sheet(run, count, view);
-  for (const [part, draw] of LAYERS) if (part === "" || sheet.has(part)) draw(sheet);
-  return sheet;
+  for (const [part, draw] of LAYERS) if (part === "" || sheet.parts.has(part)) draw(sheet);
+  return Object.assign(sheet, { height: Math.ceil(sheet.y), marks: sheet.layers.flat() });
 }

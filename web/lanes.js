@@ -4,7 +4,6 @@
  * says since when it holds: 2 n + 1 is what request n has left, and 2 n what was there as request n was answered,
  * where a restart swept it at once.
  *
- * @typedef {import("../libagc/js/machine.js").Job} Job
  * @typedef {"set" | "area" | "task"} Kind
  * @typedef {{ id: number, number: number, at: number, now: number, priority: number, area: number,
  *   state: number, from: number, to: number }} Block `at` is where the job began, `now` where it is;
@@ -16,10 +15,8 @@ import { Column } from "./column.js";
 /** What a job does that is in a core set. */
 export const State = Object.freeze({ RUNS: 1, WAITS: 2, SLEEPS: 3 });
 
-const { MOST_SETS } = NUMBERS;
-
-/** How many places the tables have beside the core sets. */
-export const MOST = { area: 5, task: NUMBERS.TASKS };
+/** How many places each table has at most. */
+export const MOST = { set: NUMBERS.MOST_SETS, area: 5, task: NUMBERS.TASKS };
 
 /** The last of so many numbers for which this holds, as it does for all before. @param {number} count @param {(number: number) => boolean} holds */
 export function lastWhere(count, holds) {
@@ -128,7 +125,7 @@ export class Lanes {
     this.jobs = new Comers();
     this.tasks = new Comers();
     /** The living jobs, by number, and the tasks that wait. */
-    this.byNumber = new Uint32Array(MOST_SETS + 1);
+    this.byNumber = new Uint32Array(MOST.set + 1);
     this.waiting = /** @type {number[]} */ ([]);
     /** The rows with which an event came, and with which an era began. */
     this.events = /** @type {number[]} */ ([]);
@@ -137,13 +134,13 @@ export class Lanes {
     this.needs = [];
   }
 
-  /** The jobs that are there since a key, by core set. @param {number} key @param {(Job | null)[]} jobs @param {boolean} beginsEra */
+  /** The jobs that are there since a key, by core set. @param {number} key @param {(import("../libagc/js/machine.js").Job | null)[]} jobs @param {boolean} beginsEra */
   lookAtJobs(key, jobs, beginsEra) {
     if (beginsEra && key > 1) this.eras.push(key >> 1);
     const before = this.byNumber;
     const owners = Array(MOST.area).fill(0);
     const sleepers = this.logs.set.map((it) => it.sleeper);
-    this.byNumber = new Uint32Array(MOST_SETS + 1);
+    this.byNumber = new Uint32Array(MOST.set + 1);
     this.logs.set.forEach((log, k) => {
       const job = jobs[k];
       if (job === null) return log.put(key, 0);

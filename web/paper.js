@@ -9,7 +9,7 @@
  */
 import { accountOf } from "./account.js";
 import { becauseOf } from "./because.js";
-import { summaryOf } from "./chart.js";
+import { summaryOf } from "./drawing-words.js";
 import { by, fill, make, withCode, withNumbers } from "./dom.js";
 import { paint } from "./drawing-pens.js";
 import { EXERCISES } from "./fields.js";

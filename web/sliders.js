@@ -4,7 +4,7 @@
  * in one line, with since when.
  */
 import { isWhole } from "./actions.js";
-import { outcomeOf } from "./chart.js";
+import { outcomeOf } from "./drawing-words.js";
 import { AGAIN, jobsOf } from "./jobs.js";
 import { assign, attribute, by, fill, make, set } from "./dom.js";
 import { act, differ, isHidden } from "./state.js";

@@ -4,16 +4,16 @@
  * for it; Ctrl and the wheel, two fingers, keys and a drawn range zoom; edges of the budget are dragged.
  */
 import { paint } from "./drawing-pens.js";
-import { summaryOf } from "./chart.js";
+import { hitAt, summaryOf } from "./drawing-words.js";
 import { PARTS, pictureOf } from "./drawing.js";
-import { hitAt } from "./drawing-words.js";
 import { assign, attribute, by, fill, make, set } from "./dom.js";
 import { act, coloursOf, differ, isHidden, namesOf, scaleOf, state } from "./state.js";
 import { seconds } from "./words.js";
 
 /** @typedef {import("./state.js").State} State @typedef {import("./drawing.js").Sheet} Sheet */
 
-/** How far the pointer goes before a click becomes a range, and how wide the picture is on paper, in points; how often it is painted while rows are added, in milliseconds; and how many jobs of a lane are told in words. */
+/** How far the pointer goes before a click becomes a range, and how wide the picture is on paper, in points; how often
+ * it is painted while rows are added, in milliseconds; and how many jobs of a lane are told in words. */
 const [LEAST_DRAWN, PAPER_WIDE, PAINTED_EACH, MOST_TOLD] = [6, 980, 300, 8];
 
 /** What was painted last: nothing is heard of the chart before that. */
@@ -112,7 +112,7 @@ function tellLanes({ run: { lanes } }, { scale, names }) {
 /** Where the row is, and in the tour's first steps empty lanes over what comes after it. @param {State} now */
 function drawAt({ at, tour, run }) {
   const { sheet } = drawn;
-  const x = sheet.xOfRow(at);
+  const x = sheet.xOf(sheet.scale.placeOf(at));
   assign(by("cursor"), { hidden: x < sheet.left - 1 || x > sheet.right + 1 });
   by("cursor").style.left = `${x}px`;
   by("cursor").classList.toggle("alarm", run.isAlarm(at));
@@ -184,18 +184,14 @@ function moved(event) {
   const isPinched = hand.pointers.size === 2;
   hand.isDrawn = isFar || isPinched || hand.edge !== null || (hand.isDrawn && !isMouse);
   if (hand.edge !== null) dragEdge(held.now);
-  else if (isPinched) pinch(held, before);
-  else if (isMouse) {
+  else if (isPinched) {
+    const other = [...hand.pointers.values()].find((it) => it !== held);
+    const [was, is] = [Math.abs(before - other.now), Math.abs(held.now - other.now)];
+    if (was > 8 && is > 8) act("zoom", was / is, drawn.sheet.partAt((held.now + other.now) / 2));
+  } else if (isMouse) {
     assign(by("range"), { hidden: !isFar });
     Object.assign(by("range").style, { left: `${Math.min(x, held.now)}px`, width: `${Math.abs(held.now - x)}px` });
   } else if (isFar) act("move", drawn.sheet.partAt(before) - drawn.sheet.partAt(held.now));
-}
-
-/** @param {{ x: number, now: number }} held @param {number} before */
-function pinch(held, before) {
-  const other = [...hand.pointers.values()].find((it) => it !== held);
-  const [was, is] = [Math.abs(before - other.now), Math.abs(held.now - other.now)];
-  if (was > 8 && is > 8) act("zoom", was / is, drawn.sheet.partAt((held.now + other.now) / 2));
 }
 
 /** @param {PointerEvent} event */
@@ -221,8 +217,8 @@ function wheel(event) {
 export function hearChart() {
   const canvas = by("lanes-chart");
   canvas.addEventListener("wheel", wheel, { passive: false });
-  for (const [name, hear] of Object.entries({ pointerdown: down, pointermove: moved, pointerup: up, click })) canvas.addEventListener(name, hear);
-  canvas.addEventListener("pointercancel", () => hand.pointers.clear());
-  canvas.addEventListener("pointerleave", () => { by("block").hidden = true; });
+  const heard = { pointerdown: down, pointermove: moved, pointerup: up, click, pointercancel: () => hand.pointers.clear(),
+    pointerleave: () => { by("block").hidden = true; } };
+  for (const [name, hear] of Object.entries(heard)) canvas.addEventListener(name, hear);
   by("slider").addEventListener("input", () => act("go", Number(by("slider").value)));
 }

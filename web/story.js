@@ -1,7 +1,7 @@
 /** The story beside the chart: the tour, what is told of the row, what may be tried, and an exercise's question. */
 import { accountOf, nameOfRestart, orderOf, standingOf } from "./account.js";
 import { becauseOf, lateOf, strawOf } from "./because.js";
-import { outcomeOf } from "./chart.js";
+import { outcomeOf } from "./drawing-words.js";
 import { assign, button, by, fill, make, set, withCode, withNumbers } from "./dom.js";
 import { FIRST_ASKED } from "./first.js";
 import { GUESSES } from "./guesses.js";

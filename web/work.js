@@ -33,27 +33,30 @@ export function needOf(costs, jobs, given) {
   }, 0);
 }
 
-/** The work of the rows that were looked at of a run. @type {WeakMap<Run, { count: number, most: number, full: number }>} */
+/** What was counted of the rows that were looked at of a run. @type {WeakMap<Run, ReturnType<typeof countsOf>>} */
 const known = new WeakMap();
 
 /**
- * The work that waits in the first rows of a run: after each row, the most of it, and the least with which all core sets
- * or all areas came into use. Null where nothing has a cost.
+ * What the first rows of a run have: how many core sets, areas and tasks are used at most; the most work that waits after one
+ * of them, and the least with which all core sets or all areas came into use.
  * @param {Run} run @param {number} count
+ * @returns {{ count: number, used: number[], most: number, full: number }}
  */
-export function workOf(run, count) {
-  if (run.bench.job.length === 0) return null;
+export function countsOf(run, count) {
   const [waiting, uses] = [run.columns.waiting.items, run.columns.uses.items];
   const isFull = (/** @type {number} */ row) => row >= 0 && ((uses[row] & 15) === run.sets || ((uses[row] >> 4) & 15) === 5);
   const looked = known.get(run);
-  const start = looked !== undefined && looked.count <= count ? looked : { count: 0, most: 0, full: Infinity };
-  let { most, full } = start;
-  for (let row = start.count; row <= count; row++) {
+  let { count: row, used: [sets, areas, tasks], most, full } = looked !== undefined && looked.count <= count ? looked
+    : { count: 0, used: [0, 0, 0], most: 0, full: Infinity };
+  for (; row <= count; row++) {
+    const use = uses[row];
+    [sets, areas, tasks] = [Math.max(sets, use & 15), Math.max(areas, (use >> 4) & 15), Math.max(tasks, (use >> 8) & 15)];
     most = Math.max(most, waiting[row]);
     if (waiting[row] > 0 && isFull(row) && !isFull(row - 1)) full = Math.min(full, waiting[row]);
   }
-  known.set(run, { count, most, full });
-  return { waiting, most, full };
+  const found = { count, used: [sets, areas, tasks], most, full };
+  known.set(run, found);
+  return found;
 }
 
 /**

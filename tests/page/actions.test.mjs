@@ -3,7 +3,7 @@
 import assert from "node:assert/strict";
 import { test } from "node:test";
 import { orderOf } from "../../web/account.js";
-import { summaryOf } from "../../web/chart.js";
+import { summaryOf } from "../../web/drawing-words.js";
 import { fillOn } from "../../web/clock.js";
 import { parting } from "../../web/history.js";
 import { judged } from "../../web/predict.js";

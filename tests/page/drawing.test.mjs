@@ -11,7 +11,7 @@ import { pictureOf } from "../../web/drawing.js";
 import { Scale } from "../../web/drawing-scale.js";
 import { svgOf, textWidth } from "../../web/drawing-pens.js";
 import { hitAt } from "../../web/drawing-words.js";
-import { budgetOf, partAsked, workOf } from "../../web/work.js";
+import { budgetOf, countsOf, partAsked } from "../../web/work.js";
 import { drawn, moduleBytes } from "../../web/picture.mjs";
 import { Run } from "../../web/run.js";
 import { faultsOf } from "./marks.mjs";
@@ -49,14 +49,14 @@ const WORK = 'seconds = 2\nsteal = 50\n[[job]]\nname = "WORK"\nat = "04000"\ncos
 /** Half of each centisecond is stolen, so 10 centiseconds take 20; the first of them passes with the second tick. */
 test("work is counted", () => {
   const run = runOf(WORK);
-  const work = workOf(run, run.count);
-  const at = [0, 1, 2, 11, 20, 21].map((tick) => work?.waiting[run.rowAtTime(tick, run.count)]);
+  const work = countsOf(run, run.count);
+  const at = [0, 1, 2, 11, 20, 21].map((tick) => run.columns.waiting.items[run.rowAtTime(tick, run.count)]);
   expect("work that waits", at, [0, 1000, 950, 500, 50, 0]);
-  expect("the most, and no table was full", [work?.most, work?.full], [1000, Infinity]);
+  expect("the most, and no table was full", [work.most, work.full], [1000, Infinity]);
   const lots = runOf('seconds = 2\nseed = 1\n[[job]]\nat = "04000"\ncost = 10\n[[job]]\nat = "05000"\ncost = { from = 10, to = 20 }\n'
     + '[[event]]\nat = 0\ndo = ["novac 20 04000 00005", "novac 10 05000 00005"]\n');
-  expect("a cost by lot counts as its mean", workOf(lots, lots.count)?.waiting[2], 2500);
-  expect("no costs, no work", workOf(script(["tick"]), 1), null);
+  expect("a cost by lot counts as its mean", lots.columns.waiting.items[2], 2500);
+  expect("no costs, no work", pictureOf(runOf("seconds = 1\n"), 100, { width: 700 }).bands.some((it) => it.kind === "work"), false);
 });
 
 /** A job that needs half a second and has three tenths: a mark where it is asked for, a red one at its deadline, and red from there on. */
@@ -76,11 +76,11 @@ test("deadlines are marked", () => {
 /** Seven jobs of 10 centiseconds: as the seventh comes 70 wait; the eighth finds none, and the restart sweeps them. */
 test("alarms sweep work", () => {
   const run = runOf(WORK.replace('do = "novac', `do = [${'"novac 20 04000 00005", '.repeat(7)}"novac`).replace('00005"\n', '00005"]\n'));
-  const work = workOf(run, run.count);
+  const work = countsOf(run, run.count);
   const [alarm] = run.alarms;
   expect("the alarm's row", alarm, 8);
-  expect("work before it, and after it", [work?.waiting[alarm - 1], work?.waiting[alarm]], [7000, 0]);
-  expect("a table is full from here on", work?.full, 7000);
+  expect("work before it, and after it", [run.columns.waiting.items[alarm - 1], run.columns.waiting.items[alarm]], [7000, 0]);
+  expect("a table is full from here on", work.full, 7000);
 });
 
 /** 170 of 200 are 85 %, 12 of 100 are 12 %, and 15 % are stolen. After the alarm at 38.01 s no display is asked for. */
@@ -148,7 +148,7 @@ test("places are told", () => {
   const picture = pictureOf(run, run.count, { width: 900, opened: ["areas", "tasks"] });
   const at = (/** @type {string} */ kind, /** @type {number} */ k, /** @type {number} */ row) => {
     const band = picture.bands.find((it) => it.kind === kind && it.k === k);
-    return hitAt(picture, picture.xOfRow(row) + 1, (band?.top ?? 0) + 2)?.text.split("\n");
+    return hitAt(picture, picture.xOf(picture.scale.placeOf(row)) + 1, (band?.top ?? 0) + 2)?.text.split("\n");
   };
   expect("a task", at("task", 0, 5), ["request 5, Waitlist", "task 02000", "since request 1", "until 0.05 s (request 6)"]);
   expect("a place that is free again", at("task", 0, 6), ["request 6, Waitlist: nothing waits here"]);

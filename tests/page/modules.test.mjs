@@ -5,7 +5,7 @@ import { Clock, start } from "../../libagc/js/machine.js";
 import { Names, accountOf, orderOf, standingOf } from "../../web/account.js";
 import { follow, readAddress, readRecipe } from "../../web/address.js";
 import { countOf, readBench, requestsOf, textFault, writeBench } from "../../web/bench.js";
-import { summaryOf } from "../../web/chart.js";
+import { summaryOf } from "../../web/drawing-words.js";
 import { Colours } from "../../web/colours.js";
 import { Column } from "../../web/column.js";
 import { firstSentence, packed, textOfData, withoutQuestion } from "../../web/files.js";
@@ -362,7 +362,7 @@ test("a long run is said to be cut", () => {
     [4_000_000, `Over 40000.00 s: ${empty} The page runs no more than 4,000,000 requests.`]])) {
     const run = {
       ...{ sets: 7, alarms: [], refused: [], bench: { seconds: 86_400 } },
-      columns: { uses: { items: new Uint16Array(count + 1) } },
+      columns: { uses: { items: new Uint16Array(count + 1) }, waiting: { items: new Uint32Array(count + 1) } },
       ticksAt: (/** @type {number} */ row) => row,
     };
     expect(`${count} ticks`, summaryOf(/** @type {any} */ (run), count), wanted);

@@ -4,7 +4,7 @@ import { readFileSync } from "node:fs";
 import { start } from "../../libagc/js/machine.js";
 import { accountOf, sentenceOf } from "../../web/account.js";
 import { ACTIONS, firstState, settled } from "../../web/actions.js";
-import { outcomeOf } from "../../web/chart.js";
+import { outcomeOf } from "../../web/drawing-words.js";
 import { keptTexts } from "../../web/files.js";
 import { moduleBytes } from "../../web/picture.mjs";
 import { differencesOf, numbersOf } from "../../web/sliders.js";
