@@ -83,7 +83,7 @@ export function causeOf(run, { step, scene, jobsFrom, row, era }) {
   if (most === undefined || most.count < 2 || typeof cost !== "number" || period === 0 || time < 2 * period) return null;
   const others = scene.sets.filter((job, k) => job !== null && jobsFrom[k] !== most.at);
   return { ...most, others: holders.length - most.count, areAsleep: others.every((it) => it?.asleep),
-    ...{ cost, period, since }, got: Math.round(gotBy(run, most.at, since, row) * period / time) };
+    ...{ cost, period, since, isArea: step.number === 0o1201 }, got: Math.round(gotBy(run, most.at, since, row) * period / time) };
 }
 
 /** What each needs and gets, so that they differ as they are written. @param {{ cost: number, got: number }} cause */

@@ -117,14 +117,17 @@ export function drawLegend(sheet) {
     ...(marks.some((it) => it.kind === "path" && it.isHatch) ? [{ text: "it sleeps", fill: "p7", hatch: "b7" }] : []),
     ...[["alarm", "alarm"], ["ink", "restart or fresh start"]].flatMap(([stroke, text]) =>
       lines.flatMap((it) => (it.kind === "path" && it.stroke === stroke ? { text, line: it } : [])).slice(0, 1)),
+    ...[["ink", -1, "asked for"], ["ink", 1, "deadline"], ["alarm", 1, "deadline missed"]].flatMap(([fill, down, text]) =>
+      (marks.some((it) => it.kind === "path" && it.fill === fill && it.points.length === 4 && Math.sign(it.points[1][1] - it.points[0][1]) === down) ? { text, fill, down } : [])),
     ...(withName.length > 0 ? withName : [...named]).map(([text, fill]) => ({ text, fill })),
   ];
   let [x, y] = [8, sheet.y + 8];
-  for (const { text, fill, hatch, line: like } of /** @type {{ text: string, fill?: string, hatch?: string, line?: any }[]} */ (entries)) {
+  for (const { text, fill, hatch, down, line: like } of /** @type {{ text: string, fill?: string, hatch?: string, down?: number, line?: any }[]} */ (entries)) {
     const width = 24 + textWidth(text, size);
     if (x > 8 && x + width > sheet.width - 8) [x, y] = [8, y + line];
     const top = y + (line - 12) / 2;
-    if (fill !== undefined) sheet.rect([x, top, 18, 12], fill);
+    if (down !== undefined) sheet.path([[x + 4, top + 6 - 5 * down], [x + 9, top + 6 + 5 * down], [x + 14, top + 6 - 5 * down], [x + 4, top + 6 - 5 * down]], { fill });
+    else if (fill !== undefined) sheet.rect([x, top, 18, 12], fill);
     if (hatch !== undefined) sheet.hatch([x, x + 18, top, 12], hatch);
     if (like !== undefined) sheet.path([[x + 9, top - 1], [x + 9, top + 13]], { stroke: like.stroke, width: like.width, isDashed: like.isDashed });
     sheet.text(text, x + 24, y + line / 2, { fill: "soft" });

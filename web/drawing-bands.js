@@ -187,8 +187,8 @@ export function noteAlarm(sheet) {
   const cause = causeSeen(sheet);
   const lanes = sheet.bands.filter((it) => it.kind === "set").slice(1);
   if (cause === null || lanes.length < 3) return;
-  const { count, others, areAsleep, x, at } = cause;
-  const lines = [`all ${count + others} taken:`, `${count} ${sheet.jobName(at)}s`, ...(others > 0 ? [`${others} ${areAsleep ? "asleep" : "more"}`] : [])];
+  const { count, others, areAsleep, isArea, x, at } = cause;
+  const lines = [`all ${count + others} ${isArea ? "areas " : ""}taken:`, `${count} ${sheet.jobName(at)}s`, ...(others > 0 ? [`${others} ${areAsleep ? "asleep" : "more"}`] : [])];
   const end = Math.min(sheet.right, sheet.seen(sheet.run.alarms)[1]?.x ?? Infinity);
   if (lines.some((it) => textWidth(it, sheet.size, true) > end - x - 12)) return;
   lines.forEach((it, k) => sheet.text(it, x + 8, (lanes[k].top + lanes[k].bottom) / 2,

@@ -8,7 +8,9 @@
 import { Machine } from "../libagc/js/machine.js";
 import { readBench, requestsOf } from "./bench.js";
 import { runOf } from "./clock.js";
+import { jobsOf } from "./jobs.js";
 import { NO_SOURCE } from "./run.js";
+import { namesOf } from "./state.js";
 import { firstAlarm } from "./sweep.js";
 import { octal } from "./words.js";
 
@@ -109,6 +111,12 @@ function rowWhere(run, holds) {
   return { value: String(found?.row ?? "none"), row: found?.row };
 }
 
+/** The job that misses a deadline first. @param {Run} run */
+const lateFirst = (run) => jobsOf(run, run.count).filter((it) => it.missed > 0).sort((one, other) => one.missedRow - other.missedRow)[0];
+
+/** @param {Run} run */
+const missed = (run) => String(jobsOf(run, run.count).reduce((sum, it) => sum + it.missed, 0));
+
 const alarm = (/** @type {string} */ label, /** @type {any} */ change) => ({ label, options: CODES, answer: ofFirst((it) => it.code, change) });
 const request = (/** @type {string} */ label) => ({ label, answer: ofFirst((it) => it.request) });
 
@@ -157,6 +165,11 @@ export const EXERCISES = {
     { label: "How many alarms?", answer: (run) => ({ value: String(run.alarms.length), row: run.alarms[0] }) },
     { label: "The first one: when, in seconds?", answer: ofFirst((it) => it.time) }, alarm("Which alarm?"),
     { label: "With a phase for the display: how many?", answer: (run) => ({ value: String(changed(run, saved).alarms.length) }) }] },
+  "exercise-13": { hint: "How many telemetry jobs are asked for while the guidance computes for 1.3 s, and when does each of them end?", fields: [
+    { label: "What do both ask for, in percent?", answer: (run) => ({ value: String(Math.round(100 * jobsOf(run, run.count).reduce((sum, it) => sum + Number(it.cost) / Number(it.period), 0))) }) },
+    { label: "Which is late?", options: ["guidance", "telemetry"], answer: (run) => ({ value: namesOf(run).job(lateFirst(run)?.at ?? 0) ?? "none", row: lateFirst(run)?.missedRow }) },
+    { label: "How many deadlines are missed?", answer: (run) => ({ value: missed(run), row: lateFirst(run)?.missedRow }) },
+    { label: "With novac 30: how many?", answer: (run) => ({ value: missed(changed(run, (text) => text.replace("novac 10", "novac 30"))) }) }] },
 };
 
 /** What a class may type for the same: without zeros at the ends of a number or before an address, in any order of addresses. @param {string} text */

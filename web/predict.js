@@ -2,7 +2,7 @@
  * What a reader expects of an exercise: its own fields. A first wrong try gets a hint; with the second one the machine's
  * answers are shown, and where they are seen. Fields that are left empty stay, so that it can be answered part by part.
  */
-import { button, labelled, make } from "./dom.js";
+import { button, make } from "./dom.js";
 import { EXERCISES, plainly, whole } from "./fields.js";
 import { withoutQuestion } from "./files.js";
 import { act, isHidden } from "./state.js";
@@ -52,15 +52,20 @@ function inputOf({ options, size = 6 }, value, isWrong) {
   return make("select", more, ...["", ...options].map((it) => make("option", { value: it, selected: it === value }, it === "" ? "–" : it)));
 }
 
+/** What a field is, once it was checked: right, or not yet. @param {{ isRight: boolean } | undefined} said */
+function markOf(said) {
+  return said === undefined ? [] : [make("span", { class: said.isRight ? "is-right" : "wrong" }, said.isRight ? "\u2713 right" : "not yet")];
+}
+
 /** The form of a prediction, with what was typed and what is said of it; once the run is shown, only the fields that are empty still. @param {State} now */
 export function predictionOf(now) {
   const given = fieldsOf(now).map((_, k) => now.predicted[k] ?? "");
   const all = isHidden(now) ? judged(now, given) : [];
-  const isWrong = (/** @type {string} */ label) => all.some((it) => it.label === label && !it.isRight);
-  const inputs = fieldsOf(now).map((field, k) => (isHidden(now) || given[k] === "" ? inputOf(field, given[k], isWrong(field.label)) : null));
+  const saidOf = (/** @type {string} */ label) => all.find((it) => it.label === label);
+  const inputs = fieldsOf(now).map((field, k) => (isHidden(now) || given[k] === "" ? inputOf(field, given[k], saidOf(field.label)?.isRight === false) : null));
   if (inputs.every((it) => it === null)) return [];
   const check = () => act("check", inputs.map((it, k) => (it === null ? given[k] : it.value.trim())));
-  const labels = fieldsOf(now).flatMap(({ label }, k) => (inputs[k] === null ? [] : [labelled(label, inputs[k])]));
+  const labels = fieldsOf(now).flatMap(({ label }, k) => (inputs[k] === null ? [] : [make("label", {}, label, inputs[k], ...markOf(saidOf(label)))]));
   return [make("div", { class: "fields", role: "group", "aria-label": "What do you expect?", id: "prediction",
     onkeydown: (/** @type {KeyboardEvent} */ event) => { if (event.key === "Enter" && event.target instanceof HTMLInputElement) check(); } }, ...labels,
   button("Check", check, { id: "check-prediction", class: "primary" })), ...hintOf(now, all)];

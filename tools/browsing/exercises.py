@@ -9,7 +9,7 @@ def try_exercise(browser, trial):
     browser.value("window.scrollTo(0, 400)")
     browser.press("e")
     names = texts(browser, "#dialog-body [aria-label=exercises] .name")
-    trial.expect(f"the list of exercises: {names}", names == "|".join(f"{k} of 12" for k in range(1, 13)))
+    trial.expect(f"the list of exercises: {names}", names == "|".join(f"{k} of 13" for k in range(1, 14)))
     browser.value("document.querySelector('#dialog-body [aria-label=exercises] button').click()")
     trial.expect("an exercise isn't seen from its top", browser.value("window.scrollY") == 0)
     shown = browser.value("document.querySelectorAll('#lines tr:not([aria-hidden])').length")
@@ -31,7 +31,7 @@ def try_questions(browser, trial):
     """An exercise shows its whole question and document, and nothing of its answer before that is asked for."""
     for size in PHONE, LAPTOP:
         browser.width(*size)
-        for number in range(1, 13):
+        for number in range(1, 14):
             exercise(browser, number)
             cut = browser.value(CUT)
             trial.expect(f"exercise {number}, {size[0]} points: {cut} is cut", cut == "")
