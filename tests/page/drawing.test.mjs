@@ -102,7 +102,7 @@ test("budgets are added up", () => {
 test("the picture says why its alarm came", () => {
   const run = runOf(readFileSync(new URL("examples/landing.toml", TOP), "utf8"));
   const told = (/** @type {string[]} */ parts) => pictureOf(run, run.count, { width: 900, to: 4500, parts }).marks.flatMap((it) => (it.kind === "text" ? [it.text] : []));
-  const notes = ["each SERVICER adds 1.7 s of work, but only 1.5 s gets done", "all 5 taken:", "5 SERVICERs"];
+  const notes = ["each SERVICER adds 1.7 s of work, but only 1.5 s gets done", "all 5 areas taken:", "5 SERVICERs"];
   expect("what is said", notes.map((it) => told(["alarms", "work", "sets", "notes"]).includes(it)), [true, true, true]);
   expect("who waits, and how long", told(["sets", "notes"]).some((it) => /^SERVICER waits [0-9]+([.][0-9])? s$/.test(it)), true);
   // (in a view that begins long before, it doesn't hold)
