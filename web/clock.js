@@ -5,7 +5,7 @@
  * @typedef {import("./bench.js").Bench} Bench
  */
 import { Clock } from "../libagc/js/machine.js";
-import { MOST_ROWS, Run, STRETCH } from "./run.js";
+import { MOST_ROWS, Run } from "./run.js";
 import { stolenSince } from "./stolen.js";
 import { visible } from "./words.js";
 
@@ -15,9 +15,9 @@ export const SPEEDS = [0.1, 0.2, 0.5, 1, 2, 5, 10, 20, 50, 100];
 /** How long one waits at most for the first alarm, or for the end, in ticks of the reader's time. */
 const PATIENCE = 800;
 
-/** How long a run is filled before it is seen, and then between two frames, in milliseconds. */
-const AT_ONCE = 24;
-const BETWEEN = 10;
+/** How long a run is filled before it is seen, and then between two frames, in milliseconds; and by how many requests at once, so
+ * that on a slow processor no frame waits for long either. */
+const [AT_ONCE, BETWEEN, SOME] = [24, 10, 500];
 
 /** The longest time that a run has, in seconds, where no scenario says it. */
 const LONGEST = 86_400;
@@ -51,7 +51,7 @@ export function runOf(bench, requests, more = {}, until = 0) {
 /** Lets time pass up to here, and on for a moment. @param {Run} run @param {number} until */
 export function fill(run, until) {
   run.isFilling = true;
-  while (run.isFilling && run.head.now < until) run.isFilling = !passTime(run, STRETCH);
+  while (run.isFilling && run.head.now < until) run.isFilling = !passTime(run, SOME);
   fillOn(run, AT_ONCE);
 }
 
@@ -66,7 +66,7 @@ export function repeatedOf(bench, requests) {
 /** Goes on with filling for some milliseconds. @param {Run} run */
 export function fillOn(run, most = BETWEEN) {
   const begun = performance.now();
-  while (run.isFilling && performance.now() - begun < most) run.isFilling = !passTime(run, STRETCH);
+  while (run.isFilling && performance.now() - begun < most) run.isFilling = !passTime(run, SOME);
 }
 
 /** Lets time pass by at most so many requests. True where it is over. @param {Run} run @param {number} most */

@@ -28,9 +28,9 @@ import { counted } from "./words.js";
 /** What is opened where nothing is asked for. */
 const FIRST = "landing-1202";
 
-/** How often time is drawn where less motion is wished, and how far a frame goes at most, in milliseconds. */
-const CALM = 250;
-const MOST_PASSED = 500;
+/** How often time is drawn where less motion is wished, how often the row's texts are while time passes, and how far a frame goes
+ * at most, in milliseconds. */
+const [CALM, READ, MOST_PASSED] = [250, 100, 500];
 
 /** Which action each key is. */
 const KEYS = {
@@ -107,16 +107,23 @@ function fillSome(run, told) {
 /** The state for which a calm view was drawn last. */
 let calmed = /** @type {State | null} */ (null);
 
-/** What needn't keep up with time that passes is drawn a few times a second, and of several such views one in a frame. @param {(now: State, before: State) => void} view */
-function calm(view) {
+/** What needn't keep up with time that passes is drawn a few times a second, and of several such views one in a frame. @param {(now: State, before: State) => void} view @param {number} [each] */
+function calm(view, each = CALM) {
   const last = { before: /** @type {State | null} */ (null), time: 0 };
   return (/** @type {State} */ now, /** @type {State} */ before) => {
     last.before ??= before;
-    if (now.clock.isRunning && (now === calmed || performance.now() - last.time < CALM)) return;
+    const isPassing = now.clock.isRunning && before.clock?.isRunning;
+    if (isPassing && (now === calmed || performance.now() - last.time < each)) return;
     calmed = now;
     view(now, last.before);
     Object.assign(last, { before: null, time: performance.now() });
   };
+}
+
+/** What the row is, in words, and its tables. @param {State} now @param {State} before */
+function texts(now, before) {
+  head(now, before);
+  tables(now, before, besideText);
 }
 
 /** The branches, by name. @param {State} now @param {State} before */
@@ -177,7 +184,7 @@ async function open() {
   makeCommon();
   fillSpeeds();
   begin(firstState({ kept: files.keptTexts(by("kept").textContent.trim()), own }), { actions: ACTIONS, settled,
-    views: [head, build, question, tour, calm(account), chart, (now, before) => tables(now, before, besideText), touch, calm(jobs), calm(list), whatIf, asked, branches, editor, dialogs, keeping,
+    views: [calm(texts, READ), build, question, tour, calm(account), chart, touch, calm(jobs), calm(list), whatIf, asked, branches, editor, dialogs, keeping,
       filling, clock] });
   hear();
   // (a link to an example isn't a link to the button of that name)

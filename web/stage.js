@@ -85,6 +85,7 @@ function paintNow(now) {
   assign(by("dismiss"), { hidden: now.before === null });
   for (const id of ["cursor", "range", "future"]) Object.assign(by(id).style, { top: `${top}px`, height: `${bottom - top}px` });
   const [first] = sheet.bands.filter((it) => it.kind === "set");
+  Object.assign(by("future").style, { left: `${sheet.left}px`, width: `${sheet.right - sheet.left + 2}px` });
   by("future").style.setProperty("--lanes", `${first.top - top}px`);
   by("future").style.setProperty("--lane", `${first.bottom - first.top}px`);
   tellLanes(now, sheet);
@@ -109,15 +110,15 @@ function tellLanes({ run: { lanes } }, { scale, names }) {
   rows.forEach((it, k) => set(list.children[k], it));
 }
 
-/** Where the row is, and in the tour's first steps empty lanes over what comes after it. @param {State} now */
+/** Where the row is, for which nothing is laid out anew, and in the tour's first steps empty lanes over what comes after it. @param {State} now */
 function drawAt({ at, tour, run }) {
   const { sheet } = drawn;
   const x = sheet.xOf(sheet.scale.placeOf(at));
   assign(by("cursor"), { hidden: x < sheet.left - 1 || x > sheet.right + 1 });
-  by("cursor").style.left = `${x}px`;
+  by("cursor").style.translate = `${x}px`;
   by("cursor").classList.toggle("alarm", run.isAlarm(at));
   assign(by("future"), { hidden: tour.step === 0 || tour.step > 2 || x > sheet.right });
-  Object.assign(by("future").style, { left: `${x}px`, width: `${sheet.right - x + 2}px` });
+  by("future").style.clipPath = `inset(0 0 0 ${Math.max(0, x - sheet.left)}px)`;
 }
 
 /** Where an event is on the picture. @param {MouseEvent} event @returns {[number, number]} */

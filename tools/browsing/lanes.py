@@ -23,7 +23,7 @@ PLOT = """(() => {
   const box = document.getElementById('lanes-chart').getBoundingClientRect();
   const [cursor, slider] = ['cursor', 'slider'].map((it) => document.getElementById(it));
   const [at, max] = [slider.value, slider.max];
-  const ends = [0, max].map((row) => { slider.value = row; slider.dispatchEvent(new Event('input')); return box.left + parseFloat(cursor.style.left); });
+  const ends = [0, max].map((row) => { slider.value = row; slider.dispatchEvent(new Event('input')); return box.left + parseFloat(cursor.style.translate); });
   slider.value = at; slider.dispatchEvent(new Event('input'));
   return [...ends, box.top, box.height];
 })()"""
