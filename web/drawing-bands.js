@@ -14,14 +14,12 @@ import { seconds } from "./words.js";
 /** How many lanes the work is high, and how many lines of text the budget; and the least work at the top. */
 const [WORK_LANES, BUDGET_LINES, LEAST_WORK] = [3.4, 1.4, 5_000];
 
-/** The budget's bar ends with a multiple of so many percent, and at least here; and how wide its plot is at least. */
-const [STEP, LEAST_BAR, LEAST_TOLD] = [25, 125, 500];
+/** The budget's bar ends with a multiple of so many percent, and at least here; how wide its plot is at least; and the most
+ * that a job costs, and how far it is dragged at least, in centiseconds. */
+const [STEP, LEAST_BAR, LEAST_TOLD, MOST_COST, LEAST_RANGE] = [25, 125, 500, 1_000_000, 400];
 
 /** How much of the way to the alarm a note at the curve has; and how wide a plot with its arrow is at least. */
 const [ROOM, LEAST_WIDE] = [0.62, 400];
-
-/** The most that a job costs, and how far it is dragged at least, in centiseconds. */
-const [MOST_COST, LEAST_RANGE] = [1_000_000, 400];
 
 /** @param {Sheet} sheet */
 export function drawWork(sheet) {

@@ -33,11 +33,9 @@ import { textWidth } from "./drawing-pens.js";
 import { lastWhere } from "./lanes.js";
 import { octal } from "./words.js";
 
-/** A core set's height, the least size of text, the room on the right, and how far apart lines of a hatch are. */
-const [HIGH, LEAST_TEXT, MARGIN, HATCH] = [28, 12, 10, 8];
-
-/** How much of a block's width its text leaves free, and at least. */
-const [BESIDE, LEAST_BESIDE] = [8, 2];
+/** A core set's height, the least size of text, the room on the right, how far apart lines of a hatch are, and how much of a
+ * block's width its text leaves free, and at least. */
+const [HIGH, LEAST_TEXT, MARGIN, HATCH, BESIDE, LEAST_BESIDE] = [28, 12, 10, 8, 8, 2];
 
 /** What a picture has. The page's has `notes`, too, and `legend` where there is room, and an SVG by itself has `title`. */
 export const PARTS = ["events", "alarms", "work", "sets", "strips", "before", "axis", "budget"];
