@@ -42,14 +42,6 @@ no_image found this code sets array R W T is reply_to_c coded =
     let which : code_for found ≡ code_of this = ap code_for is in
     rw reply_to_c (coded_also (code_of this) sets array R W T (one_or_more this) (subst (λ (n : ℕ). Coded n sets array (Unit {0}) (Unit {0}) (Unit {0})) which coded))
 
--- a call on core sets was served
-pub serves_cores : (does : List ℕ → List ℕ → Reply → Type 0) (sets : ℕ) (old new words then : List ℕ) (reply : Reply) (result : AgcReply) → IsImage sets old → IsOpened sets old words → does words then reply → Keeps OutsideCores words then → cores.IsLawfulWords then → IsWritten then old new → result ≡ reply_to_c reply → Serves does sets old new result
-serves_cores does sets old new words then reply result image opened did kept own written reply_with = record {
-  reply = reply;
-  reply_to_c = reply_with;
-  changed = changed (λ these those. does these those reply) sets old new words then image.count opened did kept.same_length (lawful_by_cores words then kept opened.lawful own) written;
-}
-
 -- a call on the Waitlist, or on phases, changed the array
 pub changed_waits : (does : List ℕ → List ℕ → Type 0) (sets : ℕ) (old new words then : List ℕ) → IsImage sets old → IsOpened sets old words → does words then → Keeps OutsideWaitlist words then → table.IsLawfulTable then → IsWritten then old new → Changed does sets old new
 changed_waits does sets old new words then image opened did kept own written =
@@ -59,9 +51,3 @@ pub changed_phases : (does : List ℕ → List ℕ → Type 0) (sets : ℕ) (old
 changed_phases does sets old new words then image opened did kept own written =
     changed does sets old new words then image.count opened did kept.same_length (lawful_by_phases words then kept opened.lawful own) written
 
-pub serves_waits : (does : List ℕ → List ℕ → Reply → Type 0) (sets : ℕ) (old new words then : List ℕ) (reply : Reply) (result : AgcReply) → IsImage sets old → IsOpened sets old words → does words then reply → Keeps OutsideWaitlist words then → table.IsLawfulTable then → IsWritten then old new → result ≡ reply_to_c reply → Serves does sets old new result
-serves_waits does sets old new words then reply result image opened did kept own written reply_with = record {
-  reply = reply;
-  reply_to_c = reply_with;
-  changed = changed_waits (λ these those. does these those reply) sets old new words then image opened did kept own written;
-}

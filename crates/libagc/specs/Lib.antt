@@ -1,4 +1,5 @@
 pub mod Replies
+pub mod Requests
 pub mod Tasks
 pub mod Phases
 pub mod Arithmetic

@@ -14,6 +14,7 @@ mod phases;
 mod plans;
 mod ready;
 mod reply;
+mod requests;
 mod scene;
 mod steps;
 mod tables;

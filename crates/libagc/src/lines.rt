@@ -13,7 +13,7 @@ use agc_plan::{Action, Delay, Entry, Priority, Request, Task};
 use agc_text::{parse_action, parse_line};
 
 /// A request of this kind, with these numbers.
-fn request_with(kind: u32, first: u32, second: u32, third: u32) -> AgcRequest
+pub(crate) fn request_with(kind: u32, first: u32, second: u32, third: u32) -> AgcRequest
     ensures { result ≡ request_with kind first second third }
 {
     AgcRequest {

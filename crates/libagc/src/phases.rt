@@ -4,7 +4,7 @@ ghost use Rattle.agc_plan.specs.Base.{with_phase};
 ghost use Rattle.agc_plan.specs.Ranges.{IsSix};
 ghost use Rattle.agc_phase.specs.Image.{base_of, Becomes, code_of_word, phases_in, ArePairs};
 ghost use Rattle.agc_image.specs.Codes.{Coded, code_of};
-ghost use Rattle.agc_image.specs.Images.{IsImage, AreWords, Changed};
+ghost use Rattle.agc_image.specs.Images.{AreWords, Changed};
 ghost use Rattle.libagc.specs.Phases.{Records};
 
 use agc_image::{Fault, blank_image, image_fault, open, twelve, write_back};
@@ -45,36 +45,20 @@ pub extern "C" fn agc_set_phase(words: &mut [u16; 144], sets: u32, group: u32, p
 {
     match image_fault(words, sets) {
         Some(fault) => fault.code(),
-        None => agc_set_phase_trusted(words, sets, group, phase),
+        None => {
+            let Some(group) = agc_image::group(group) else {
+                return Fault::OutOfRange.code();
+            };
+            let Some(phase) = agc_image::phase(phase) else {
+                return Fault::OutOfRange.code();
+            };
+            let mut image = blank_image(sets);
+            open(words, sets, &mut image);
+            set_phase(&mut image, group, phase);
+            write_back(&image, words);
+            0
+        }
     }
-}
-
-/// As `agc_set_phase`, for an array that is known to have an image, as every call leaves it.
-#[unsafe(no_mangle)]
-pub extern "C" fn agc_set_phase_trusted(
-    words: &mut [u16; 144],
-    sets: u32,
-    group: u32,
-    phase: u32,
-) -> u32
-    requires { IsImage sets words.old }
-    ensures code { Coded result sets words.old (IsSix group × (phase ≤ 127)) (Unit {0}) (Unit {0}) }
-    ensures served { result ≡ 0
-        → Changed (λ old new. Becomes (with_phase group phase (base_of old)) old new)
-        sets words.old words.new }
-    ensures with_fault { ¬ (result ≡ 0) → words.new ≡ words.old }
-{
-    let Some(group) = agc_image::group(group) else {
-        return Fault::OutOfRange.code();
-    };
-    let Some(phase) = agc_image::phase(phase) else {
-        return Fault::OutOfRange.code();
-    };
-    let mut image = blank_image(sets);
-    open(words, sets, &mut image);
-    set_phase(&mut image, group, phase);
-    write_back(&image, words);
-    0
 }
 
 /// Adds an alarm's code to FAILREG: 01107, 01201, 01202 or 01203. Answers the code of the call, 4
@@ -88,27 +72,17 @@ pub extern "C" fn agc_record_alarm(words: &mut [u16; 144], sets: u32, alarm: u32
 {
     match image_fault(words, sets) {
         Some(fault) => fault.code(),
-        None => agc_record_alarm_trusted(words, sets, alarm),
+        None => {
+            let Some(code) = agc_image::alarm_code(alarm) else {
+                return Fault::OutOfRange.code();
+            };
+            let mut image = blank_image(sets);
+            open(words, sets, &mut image);
+            record_alarm(&mut image, code);
+            write_back(&image, words);
+            0
+        }
     }
-}
-
-/// As `agc_record_alarm`, for an array that is known to have an image, as every call leaves it.
-#[unsafe(no_mangle)]
-pub extern "C" fn agc_record_alarm_trusted(words: &mut [u16; 144], sets: u32, alarm: u32) -> u32
-    requires { IsImage sets words.old }
-    ensures code { Coded result sets words.old
-        (IsSome (code_of_word alarm)) (Unit {0}) (Unit {0}) }
-    ensures served { result ≡ 0 → Changed (Records alarm) sets words.old words.new }
-    ensures with_fault { ¬ (result ≡ 0) → words.new ≡ words.old }
-{
-    let Some(code) = agc_image::alarm_code(alarm) else {
-        return Fault::OutOfRange.code();
-    };
-    let mut image = blank_image(sets);
-    open(words, sets, &mut image);
-    record_alarm(&mut image, code);
-    write_back(&image, words);
-    0
 }
 
 /// The phases as numbers.

@@ -1,7 +1,7 @@
 // The replies of calls.
 ghost use Rattle.std.specs.Prelude.{◌≡◌, false};
 ghost use Rattle.agc_image.specs.Codes.{code_of};
-ghost use Rattle.libagc.specs.Replies.{alarm_code, reply_to_c, refusal, listing};
+ghost use Rattle.libagc.specs.Replies.{alarm_code, reply_to_c, refusal};
 
 use agc_image::Fault;
 use agc_plan::{Alarm, Reply};
@@ -61,18 +61,6 @@ impl AgcReply {
             Reply::Phased => AgcReply::reply_with(0, 0),
             Reply::Ticked(_) => AgcReply::reply_with(0, 0),
             Reply::Restarted => AgcReply::reply_with(0, 0),
-        }
-    }
-
-    /// The reply to listing a task.
-    pub(crate) fn listing(accepted: bool) -> AgcReply
-        ensures reply { result ≡ reply_to_c (listing accepted) }
-        ensures served { result.code ≡ 0 }
-    {
-        if accepted {
-            AgcReply::reply_with(9, 0)
-        } else {
-            AgcReply::reply_with(10, alarm_code(Alarm::A1203))
         }
     }
 
