@@ -36,8 +36,8 @@
  * the third where neither changes. No call, code or number of this header changes its meaning while
  * the first number stays, and no struct its size.
  *
- * TRUSTED. agc_NAME looks at the whole image before it does anything, which takes longer than the
- * call itself. agc_NAME_trusted doesn't. Its condition: the array is as an earlier call with this
+ * TRUSTED. agc_NAME looks at the whole image before it does anything, which takes longer than a step
+ * itself. agc_NAME_trusted, which steps, eras and clocks have, doesn't. Its condition: the array is as an earlier call with this
  * number of sets left it. That is one of: agc_clear, agc_restart or any other call on a `words` that
  * isn't const, with AGC_OK; agc_check with AGC_OK; agc_migrate with AGC_OK, for 8 sets. And nobody
  * wrote to the array since, nor changed the number of sets. It is proved that this suffices: after
@@ -613,63 +613,48 @@ AGC_USED uint32_t agc_migrate(uint16_t words[AGC_WORDS]);
 /* NOVAC, FINDVAC: a job of this priority, 1 to 31, at this address, 1 to 16383, in this bank, a word.
    AGC_ESTABLISHED, or AGC_ALARMED with AGC_ALARM_1202, FINDVAC also with AGC_ALARM_1201. */
 AGC_USED AgcReply agc_novac(uint16_t words[AGC_WORDS], uint32_t sets, uint32_t priority, uint32_t at, uint32_t bank);
-AGC_USED AgcReply agc_novac_trusted(uint16_t words[AGC_WORDS], uint32_t sets, uint32_t priority, uint32_t at, uint32_t bank);
 AGC_USED AgcReply agc_findvac(uint16_t words[AGC_WORDS], uint32_t sets, uint32_t priority, uint32_t at, uint32_t bank);
-AGC_USED AgcReply agc_findvac_trusted(uint16_t words[AGC_WORDS], uint32_t sets, uint32_t priority, uint32_t at, uint32_t bank);
 
 /* End of job. AGC_LEFT, AGC_IDLE or AGC_NO_JOB. */
 AGC_USED AgcReply agc_end_of_job(uint16_t words[AGC_WORDS], uint32_t sets);
-AGC_USED AgcReply agc_end_of_job_trusted(uint16_t words[AGC_WORDS], uint32_t sets);
 
 /* JOBSLEEP: until this address, 1 to 16383, is called. AGC_LEFT, AGC_IDLE or AGC_NO_JOB. */
 AGC_USED AgcReply agc_job_sleep(uint16_t words[AGC_WORDS], uint32_t sets, uint32_t at);
-AGC_USED AgcReply agc_job_sleep_trusted(uint16_t words[AGC_WORDS], uint32_t sets, uint32_t at);
 
 /* JOBWAKE: the least-numbered sleeper of this address, 1 to 16383. AGC_ROUSED or AGC_NO_SLEEPER. */
 AGC_USED AgcReply agc_job_wake(uint16_t words[AGC_WORDS], uint32_t sets, uint32_t at);
-AGC_USED AgcReply agc_job_wake_trusted(uint16_t words[AGC_WORDS], uint32_t sets, uint32_t at);
 
 /* PRIOCHNG: the running job's priority, 1 to 31. AGC_RUNS or AGC_NO_JOB. */
 AGC_USED AgcReply agc_prio_change(uint16_t words[AGC_WORDS], uint32_t sets, uint32_t priority);
-AGC_USED AgcReply agc_prio_change_trusted(uint16_t words[AGC_WORDS], uint32_t sets, uint32_t priority);
 
 /* Change of job, to what NEWJOB names. AGC_RUNS or AGC_NO_JOB. */
 AGC_USED AgcReply agc_change_job(uint16_t words[AGC_WORDS], uint32_t sets);
-AGC_USED AgcReply agc_change_job_trusted(uint16_t words[AGC_WORDS], uint32_t sets);
 
 /* Work word 1 to 6 of the running job, MPAC+1 to MPAC+6. AGC_STORED or AGC_NO_JOB. */
 AGC_USED AgcReply agc_store(uint16_t words[AGC_WORDS], uint32_t sets, uint32_t place, uint32_t word);
-AGC_USED AgcReply agc_store_trusted(uint16_t words[AGC_WORDS], uint32_t sets, uint32_t place, uint32_t word);
 
 /* The number of the running job, 0 where no job is running. */
 AGC_USED AgcNumber agc_running(const uint16_t words[AGC_WORDS], uint32_t sets);
-AGC_USED AgcNumber agc_running_trusted(const uint16_t words[AGC_WORDS], uint32_t sets);
 
 /* WAITLIST: a task due in so many centiseconds, 1 to 16250, at this address, 1 to 16383, in this bank,
    a word. AGC_LISTED, or AGC_ALARMED with AGC_ALARM_1203. */
 AGC_USED AgcReply agc_list(uint16_t words[AGC_WORDS], uint32_t sets, uint32_t delay, uint32_t at, uint32_t bank);
-AGC_USED AgcReply agc_list_trusted(uint16_t words[AGC_WORDS], uint32_t sets, uint32_t delay, uint32_t at, uint32_t bank);
 
 /* A centisecond passes; true where a task is due then. AGC_NOT_NOW where one is due before it. A tick
    is this call, and then agc_dispatch as long as agc_due answers true. */
 AGC_USED AgcTruth agc_count_time3(uint16_t words[AGC_WORDS], uint32_t sets);
-AGC_USED AgcTruth agc_count_time3_trusted(uint16_t words[AGC_WORDS], uint32_t sets);
 
 /* Whether a task is due now. */
 AGC_USED AgcTruth agc_due(const uint16_t words[AGC_WORDS], uint32_t sets);
-AGC_USED AgcTruth agc_due_trusted(const uint16_t words[AGC_WORDS], uint32_t sets);
 
 /* Takes out a task that is due: of these the earliest arrival. AGC_NOT_NOW where none is due. */
 AGC_USED AgcTask agc_dispatch(uint16_t words[AGC_WORDS], uint32_t sets);
-AGC_USED AgcTask agc_dispatch_trusted(uint16_t words[AGC_WORDS], uint32_t sets);
 
 /* The phase, 0 to 127, of a restart group, 1 to 6. */
 AGC_USED uint32_t agc_set_phase(uint16_t words[AGC_WORDS], uint32_t sets, uint32_t group, uint32_t phase);
-AGC_USED uint32_t agc_set_phase_trusted(uint16_t words[AGC_WORDS], uint32_t sets, uint32_t group, uint32_t phase);
 
 /* Adds one of the four alarms to FAILREG. */
 AGC_USED uint32_t agc_record_alarm(uint16_t words[AGC_WORDS], uint32_t sets, uint32_t alarm);
-AGC_USED uint32_t agc_record_alarm_trusted(uint16_t words[AGC_WORDS], uint32_t sets, uint32_t alarm);
 
 /* The phases that twelve phase words tell, as found when power comes back, -PHASE1 first. AGC_NOT_WORDS,
    or AGC_UNLAWFUL where a pair's words aren't complements of each other, or a phase is above 127. */

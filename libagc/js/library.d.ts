@@ -41,35 +41,20 @@
  *  agc_restart(words: bigint, sets: number): number,
  *  agc_migrate(words: bigint): number,
  *  agc_novac(answer: bigint, words: bigint, sets: number, priority: number, at: number, bank: number): void,
- *  agc_novac_trusted(answer: bigint, words: bigint, sets: number, priority: number, at: number, bank: number): void,
  *  agc_findvac(answer: bigint, words: bigint, sets: number, priority: number, at: number, bank: number): void,
- *  agc_findvac_trusted(answer: bigint, words: bigint, sets: number, priority: number, at: number, bank: number): void,
  *  agc_end_of_job(answer: bigint, words: bigint, sets: number): void,
- *  agc_end_of_job_trusted(answer: bigint, words: bigint, sets: number): void,
  *  agc_job_sleep(answer: bigint, words: bigint, sets: number, at: number): void,
- *  agc_job_sleep_trusted(answer: bigint, words: bigint, sets: number, at: number): void,
  *  agc_job_wake(answer: bigint, words: bigint, sets: number, at: number): void,
- *  agc_job_wake_trusted(answer: bigint, words: bigint, sets: number, at: number): void,
  *  agc_prio_change(answer: bigint, words: bigint, sets: number, priority: number): void,
- *  agc_prio_change_trusted(answer: bigint, words: bigint, sets: number, priority: number): void,
  *  agc_change_job(answer: bigint, words: bigint, sets: number): void,
- *  agc_change_job_trusted(answer: bigint, words: bigint, sets: number): void,
  *  agc_store(answer: bigint, words: bigint, sets: number, place: number, word: number): void,
- *  agc_store_trusted(answer: bigint, words: bigint, sets: number, place: number, word: number): void,
  *  agc_running(answer: bigint, words: bigint, sets: number): void,
- *  agc_running_trusted(answer: bigint, words: bigint, sets: number): void,
  *  agc_list(answer: bigint, words: bigint, sets: number, delay: number, at: number, bank: number): void,
- *  agc_list_trusted(answer: bigint, words: bigint, sets: number, delay: number, at: number, bank: number): void,
  *  agc_count_time3(answer: bigint, words: bigint, sets: number): void,
- *  agc_count_time3_trusted(answer: bigint, words: bigint, sets: number): void,
  *  agc_due(answer: bigint, words: bigint, sets: number): void,
- *  agc_due_trusted(answer: bigint, words: bigint, sets: number): void,
  *  agc_dispatch(answer: bigint, words: bigint, sets: number): void,
- *  agc_dispatch_trusted(answer: bigint, words: bigint, sets: number): void,
  *  agc_set_phase(words: bigint, sets: number, group: number, phase: number): number,
- *  agc_set_phase_trusted(words: bigint, sets: number, group: number, phase: number): number,
  *  agc_record_alarm(words: bigint, sets: number, alarm: number): number,
- *  agc_record_alarm_trusted(words: bigint, sets: number, alarm: number): number,
  *  agc_recover(answer: bigint, words: bigint): void,
  *  agc_add(answer: bigint, a: number, b: number): void,
  *  agc_negative(answer: bigint, word: number): void,
@@ -238,35 +223,20 @@ export type Library = {
     agc_restart(words: bigint, sets: number): number;
     agc_migrate(words: bigint): number;
     agc_novac(answer: bigint, words: bigint, sets: number, priority: number, at: number, bank: number): void;
-    agc_novac_trusted(answer: bigint, words: bigint, sets: number, priority: number, at: number, bank: number): void;
     agc_findvac(answer: bigint, words: bigint, sets: number, priority: number, at: number, bank: number): void;
-    agc_findvac_trusted(answer: bigint, words: bigint, sets: number, priority: number, at: number, bank: number): void;
     agc_end_of_job(answer: bigint, words: bigint, sets: number): void;
-    agc_end_of_job_trusted(answer: bigint, words: bigint, sets: number): void;
     agc_job_sleep(answer: bigint, words: bigint, sets: number, at: number): void;
-    agc_job_sleep_trusted(answer: bigint, words: bigint, sets: number, at: number): void;
     agc_job_wake(answer: bigint, words: bigint, sets: number, at: number): void;
-    agc_job_wake_trusted(answer: bigint, words: bigint, sets: number, at: number): void;
     agc_prio_change(answer: bigint, words: bigint, sets: number, priority: number): void;
-    agc_prio_change_trusted(answer: bigint, words: bigint, sets: number, priority: number): void;
     agc_change_job(answer: bigint, words: bigint, sets: number): void;
-    agc_change_job_trusted(answer: bigint, words: bigint, sets: number): void;
     agc_store(answer: bigint, words: bigint, sets: number, place: number, word: number): void;
-    agc_store_trusted(answer: bigint, words: bigint, sets: number, place: number, word: number): void;
     agc_running(answer: bigint, words: bigint, sets: number): void;
-    agc_running_trusted(answer: bigint, words: bigint, sets: number): void;
     agc_list(answer: bigint, words: bigint, sets: number, delay: number, at: number, bank: number): void;
-    agc_list_trusted(answer: bigint, words: bigint, sets: number, delay: number, at: number, bank: number): void;
     agc_count_time3(answer: bigint, words: bigint, sets: number): void;
-    agc_count_time3_trusted(answer: bigint, words: bigint, sets: number): void;
     agc_due(answer: bigint, words: bigint, sets: number): void;
-    agc_due_trusted(answer: bigint, words: bigint, sets: number): void;
     agc_dispatch(answer: bigint, words: bigint, sets: number): void;
-    agc_dispatch_trusted(answer: bigint, words: bigint, sets: number): void;
     agc_set_phase(words: bigint, sets: number, group: number, phase: number): number;
-    agc_set_phase_trusted(words: bigint, sets: number, group: number, phase: number): number;
     agc_record_alarm(words: bigint, sets: number, alarm: number): number;
-    agc_record_alarm_trusted(words: bigint, sets: number, alarm: number): number;
     agc_recover(answer: bigint, words: bigint): void;
     agc_add(answer: bigint, a: number, b: number): void;
     agc_negative(answer: bigint, word: number): void;

@@ -965,126 +965,36 @@ unsafe extern "C" {
     /// NOVAC, FINDVAC: a job of this priority, 1 to 31, at this address, 1 to 16383, in this
     /// bank, a word. ESTABLISHED, or ALARMED with ALARM_1202, FINDVAC also with ALARM_1201.
     pub safe fn agc_novac(words: &mut [u16; WORDS], sets: u32, priority: u32, at: u32, bank: u32) -> AgcReply;
-    /// As `agc_novac`, of an array that an earlier call left so.
-    ///
-    /// # Safety
-    ///
-    /// The array is as an earlier call with this number of core sets left it: agc.h has more.
-    pub fn agc_novac_trusted(words: &mut [u16; WORDS], sets: u32, priority: u32, at: u32, bank: u32) -> AgcReply;
     /// As `agc_findvac`, of an array that an earlier call left so.
     pub safe fn agc_findvac(words: &mut [u16; WORDS], sets: u32, priority: u32, at: u32, bank: u32) -> AgcReply;
-    /// As `agc_findvac`, of an array that an earlier call left so.
-    ///
-    /// # Safety
-    ///
-    /// The array is as an earlier call with this number of core sets left it: agc.h has more.
-    pub fn agc_findvac_trusted(words: &mut [u16; WORDS], sets: u32, priority: u32, at: u32, bank: u32) -> AgcReply;
     /// End of job. LEFT, IDLE or NO_JOB.
     pub safe fn agc_end_of_job(words: &mut [u16; WORDS], sets: u32) -> AgcReply;
-    /// As `agc_end_of_job`, of an array that an earlier call left so.
-    ///
-    /// # Safety
-    ///
-    /// The array is as an earlier call with this number of core sets left it: agc.h has more.
-    pub fn agc_end_of_job_trusted(words: &mut [u16; WORDS], sets: u32) -> AgcReply;
     /// JOBSLEEP: until this address, 1 to 16383, is called. LEFT, IDLE or NO_JOB.
     pub safe fn agc_job_sleep(words: &mut [u16; WORDS], sets: u32, at: u32) -> AgcReply;
-    /// As `agc_job_sleep`, of an array that an earlier call left so.
-    ///
-    /// # Safety
-    ///
-    /// The array is as an earlier call with this number of core sets left it: agc.h has more.
-    pub fn agc_job_sleep_trusted(words: &mut [u16; WORDS], sets: u32, at: u32) -> AgcReply;
     /// JOBWAKE: the least-numbered sleeper of this address, 1 to 16383. ROUSED or NO_SLEEPER.
     pub safe fn agc_job_wake(words: &mut [u16; WORDS], sets: u32, at: u32) -> AgcReply;
-    /// As `agc_job_wake`, of an array that an earlier call left so.
-    ///
-    /// # Safety
-    ///
-    /// The array is as an earlier call with this number of core sets left it: agc.h has more.
-    pub fn agc_job_wake_trusted(words: &mut [u16; WORDS], sets: u32, at: u32) -> AgcReply;
     /// PRIOCHNG: the running job's priority, 1 to 31. RUNS or NO_JOB.
     pub safe fn agc_prio_change(words: &mut [u16; WORDS], sets: u32, priority: u32) -> AgcReply;
-    /// As `agc_prio_change`, of an array that an earlier call left so.
-    ///
-    /// # Safety
-    ///
-    /// The array is as an earlier call with this number of core sets left it: agc.h has more.
-    pub fn agc_prio_change_trusted(words: &mut [u16; WORDS], sets: u32, priority: u32) -> AgcReply;
     /// Change of job, to what NEWJOB names. RUNS or NO_JOB.
     pub safe fn agc_change_job(words: &mut [u16; WORDS], sets: u32) -> AgcReply;
-    /// As `agc_change_job`, of an array that an earlier call left so.
-    ///
-    /// # Safety
-    ///
-    /// The array is as an earlier call with this number of core sets left it: agc.h has more.
-    pub fn agc_change_job_trusted(words: &mut [u16; WORDS], sets: u32) -> AgcReply;
     /// Work word 1 to 6 of the running job, MPAC+1 to MPAC+6. STORED or NO_JOB.
     pub safe fn agc_store(words: &mut [u16; WORDS], sets: u32, place: u32, word: u32) -> AgcReply;
-    /// As `agc_store`, of an array that an earlier call left so.
-    ///
-    /// # Safety
-    ///
-    /// The array is as an earlier call with this number of core sets left it: agc.h has more.
-    pub fn agc_store_trusted(words: &mut [u16; WORDS], sets: u32, place: u32, word: u32) -> AgcReply;
     /// The number of the running job, 0 where no job is running.
     pub safe fn agc_running(words: &[u16; WORDS], sets: u32) -> AgcNumber;
-    /// As `agc_running`, of an array that an earlier call left so.
-    ///
-    /// # Safety
-    ///
-    /// The array is as an earlier call with this number of core sets left it: agc.h has more.
-    pub fn agc_running_trusted(words: &[u16; WORDS], sets: u32) -> AgcNumber;
     /// WAITLIST: a task due in so many centiseconds, 1 to 16250, at this address, 1 to 16383, in
     /// this bank, a word. LISTED, or ALARMED with ALARM_1203.
     pub safe fn agc_list(words: &mut [u16; WORDS], sets: u32, delay: u32, at: u32, bank: u32) -> AgcReply;
-    /// As `agc_list`, of an array that an earlier call left so.
-    ///
-    /// # Safety
-    ///
-    /// The array is as an earlier call with this number of core sets left it: agc.h has more.
-    pub fn agc_list_trusted(words: &mut [u16; WORDS], sets: u32, delay: u32, at: u32, bank: u32) -> AgcReply;
     /// A centisecond passes; true where a task is due then. NOT_NOW where one is due before it. A
     /// tick is this call, and then agc_dispatch as long as agc_due answers true.
     pub safe fn agc_count_time3(words: &mut [u16; WORDS], sets: u32) -> AgcTruth;
-    /// As `agc_count_time3`, of an array that an earlier call left so.
-    ///
-    /// # Safety
-    ///
-    /// The array is as an earlier call with this number of core sets left it: agc.h has more.
-    pub fn agc_count_time3_trusted(words: &mut [u16; WORDS], sets: u32) -> AgcTruth;
     /// Whether a task is due now.
     pub safe fn agc_due(words: &[u16; WORDS], sets: u32) -> AgcTruth;
-    /// As `agc_due`, of an array that an earlier call left so.
-    ///
-    /// # Safety
-    ///
-    /// The array is as an earlier call with this number of core sets left it: agc.h has more.
-    pub fn agc_due_trusted(words: &[u16; WORDS], sets: u32) -> AgcTruth;
     /// Takes out a task that is due: of these the earliest arrival. NOT_NOW where none is due.
     pub safe fn agc_dispatch(words: &mut [u16; WORDS], sets: u32) -> AgcTask;
-    /// As `agc_dispatch`, of an array that an earlier call left so.
-    ///
-    /// # Safety
-    ///
-    /// The array is as an earlier call with this number of core sets left it: agc.h has more.
-    pub fn agc_dispatch_trusted(words: &mut [u16; WORDS], sets: u32) -> AgcTask;
     /// The phase, 0 to 127, of a restart group, 1 to 6.
     pub safe fn agc_set_phase(words: &mut [u16; WORDS], sets: u32, group: u32, phase: u32) -> u32;
-    /// As `agc_set_phase`, of an array that an earlier call left so.
-    ///
-    /// # Safety
-    ///
-    /// The array is as an earlier call with this number of core sets left it: agc.h has more.
-    pub fn agc_set_phase_trusted(words: &mut [u16; WORDS], sets: u32, group: u32, phase: u32) -> u32;
     /// Adds one of the four alarms to FAILREG.
     pub safe fn agc_record_alarm(words: &mut [u16; WORDS], sets: u32, alarm: u32) -> u32;
-    /// As `agc_record_alarm`, of an array that an earlier call left so.
-    ///
-    /// # Safety
-    ///
-    /// The array is as an earlier call with this number of core sets left it: agc.h has more.
-    pub fn agc_record_alarm_trusted(words: &mut [u16; WORDS], sets: u32, alarm: u32) -> u32;
     /// The phases that twelve phase words tell, as found when power comes back, -PHASE1 first.
     /// NOT_WORDS, or UNLAWFUL where a pair's words aren't complements of each other, or a phase
     /// is above 127.

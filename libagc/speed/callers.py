@@ -35,12 +35,10 @@ def main():
     ffi.cdef(
         "typedef struct { uint32_t code, reply, number; } AgcReply; uint32_t agc_clear(uint16_t *, uint32_t);"
         "AgcReply agc_novac(uint16_t *, uint32_t, uint32_t, uint32_t, uint32_t);"
-        "AgcReply agc_novac_trusted(uint16_t *, uint32_t, uint32_t, uint32_t, uint32_t);"
     )
     library, own = ffi.dlopen(agc.library._name), ffi.new("uint16_t[144]")
     clear = lambda: library.agc_clear(own, 7)
     timed("cffi, agc_novac", lambda priority: library.agc_novac(own, 7, priority, 0o2000, 5), clear)
-    timed("cffi, agc_novac_trusted", lambda priority: library.agc_novac_trusted(own, 7, priority, 0o2000, 5), clear)
 
 
 main()

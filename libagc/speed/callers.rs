@@ -27,6 +27,4 @@ fn timed(name: &str, call: fn(&mut Words, u32) -> AgcReply) {
 
 fn main() {
     timed("agc_novac", |words, priority| agc_novac(words, 7, priority, 0o2000, 5));
-    // safe, since the array is as agc_clear or the call before left it
-    timed("agc_novac_trusted", |words, priority| unsafe { agc_novac_trusted(words, 7, priority, 0o2000, 5) });
 }

@@ -1,6 +1,6 @@
 /* Reads script lines, as `agc script` does, asks the library for each, and writes its reply lines and its report.
    Other lines are those that inputs.py writes: the plan, and where the next bench begins.
-   script SETS checked|trusted */
+   script SETS */
 #include "agc.h"
 
 #include <stdio.h>
@@ -9,7 +9,6 @@
 
 static uint16_t words[AGC_WORDS];
 static uint32_t sets;
-static bool trusted;
 static unsigned served, alarms[3], restarts;
 
 /* The plan: what begins again, and the actions of tasks, each a script line. */
@@ -17,8 +16,6 @@ enum { MOST = 64 };
 static AgcPhaseEntry entries[MOST];
 static struct { unsigned at, bank; char action[64]; } rows[MOST];
 static size_t entry_count, row_count;
-
-#define ASK(NAME, ...) (trusted ? NAME##_trusted(__VA_ARGS__) : NAME(__VA_ARGS__))
 
 static void want(uint32_t code) {
     if (code != AGC_OK) {
@@ -55,15 +52,15 @@ static void say(AgcReply r) {
 static AgcReply ask(const char *line) {
     unsigned a, b, c;
     AgcReply none = {98, 0, 0};
-    if (sscanf(line, "novac %o %o %o", &a, &b, &c) == 3) return ASK(agc_novac, words, sets, a, b, c);
-    if (sscanf(line, "findvac %o %o %o", &a, &b, &c) == 3) return ASK(agc_findvac, words, sets, a, b, c);
-    if (!strcmp(line, "end")) return ASK(agc_end_of_job, words, sets);
-    if (sscanf(line, "sleep %o", &a) == 1) return ASK(agc_job_sleep, words, sets, a);
-    if (sscanf(line, "rouse %o", &a) == 1) return ASK(agc_job_wake, words, sets, a);
-    if (sscanf(line, "prio %o", &a) == 1) return ASK(agc_prio_change, words, sets, a);
-    if (!strcmp(line, "change")) return ASK(agc_change_job, words, sets);
-    if (sscanf(line, "store %u %o", &a, &b) == 2) return ASK(agc_store, words, sets, a, b);
-    if (sscanf(line, "list %u %o %o", &a, &b, &c) == 3) return ASK(agc_list, words, sets, a, b, c);
+    if (sscanf(line, "novac %o %o %o", &a, &b, &c) == 3) return agc_novac(words, sets, a, b, c);
+    if (sscanf(line, "findvac %o %o %o", &a, &b, &c) == 3) return agc_findvac(words, sets, a, b, c);
+    if (!strcmp(line, "end")) return agc_end_of_job(words, sets);
+    if (sscanf(line, "sleep %o", &a) == 1) return agc_job_sleep(words, sets, a);
+    if (sscanf(line, "rouse %o", &a) == 1) return agc_job_wake(words, sets, a);
+    if (sscanf(line, "prio %o", &a) == 1) return agc_prio_change(words, sets, a);
+    if (!strcmp(line, "change")) return agc_change_job(words, sets);
+    if (sscanf(line, "store %u %o", &a, &b) == 2) return agc_store(words, sets, a, b);
+    if (sscanf(line, "list %u %o %o", &a, &b, &c) == 3) return agc_list(words, sets, a, b, c);
     return none;
 }
 
@@ -80,13 +77,13 @@ static uint32_t perform(AgcTask task) {
 
 static void tick(void) {
     uint32_t alarm = 0;
-    want(ASK(agc_count_time3, words, sets).code);
+    want(agc_count_time3(words, sets).code);
     fputs("tick", stdout);
     while (alarm == 0) {
-        AgcTruth due = ASK(agc_due, words, sets);
+        AgcTruth due = agc_due(words, sets);
         want(due.code);
         if (!due.truth) break;
-        AgcTask task = ASK(agc_dispatch, words, sets);
+        AgcTask task = agc_dispatch(words, sets);
         want(task.code);
         printf(" %05o/%05o", task.at, task.bank);
         alarm = perform(task);
@@ -102,7 +99,7 @@ static void serve(const char *line) {
     unsigned a, b;
     served++;
     if (!strcmp(line, "tick")) tick();
-    else if (sscanf(line, "phase %u %u", &a, &b) == 2) { want(ASK(agc_set_phase, words, sets, a, b)); puts("phased"); }
+    else if (sscanf(line, "phase %u %u", &a, &b) == 2) { want(agc_set_phase(words, sets, a, b)); puts("phased"); }
     else if (!strcmp(line, "restart")) { begin(0); puts("restarted"); }
     else if (!strcmp(line, "fresh")) { want(agc_clear(words, sets)); restarts++; puts("restarted"); }
     else say(ask(line));
@@ -139,7 +136,7 @@ static void power_up(const char *texts) {
     char *rest;
     for (int k = 0; k < AGC_PHASE_WORDS; k++, texts = rest) found[k] = (uint16_t)strtoul(texts, &rest, 8);
     AgcPhases then = agc_recover(found);
-    for (uint32_t k = 0; k < 6; k++) want(ASK(agc_set_phase, words, sets, k + 1, then.phases[k]));
+    for (uint32_t k = 0; k < 6; k++) want(agc_set_phase(words, sets, k + 1, then.phases[k]));
     want(agc_begin(words, sets, then.code == AGC_OK ? 0 : AGC_ALARM_1107, entries, entry_count));
 }
 
@@ -178,8 +175,7 @@ static void take(const char *line) {
 
 int main(int argc, char **argv) {
     char line[128];
-    if (argc != 3) return 2;
-    trusted = !strcmp(argv[2], "trusted");
+    if (argc != 2) return 2;
     start((uint32_t)atoi(argv[1]));
     while (fgets(line, sizeof line, stdin)) {
         line[strcspn(line, "\n")] = 0;

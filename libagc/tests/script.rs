@@ -195,8 +195,7 @@ fn refuses() {
     assert_eq!(agc_novac(&mut words, 7, 0, 1, 1).code, OUT_OF_RANGE);
     assert_eq!(agc_novac(&mut words, 7, 1, 1, 32768).code, NOT_A_WORD);
     assert_eq!(agc_dispatch(&mut words, 7), AgcTask { code: NOT_NOW, at: 0, bank: 0 });
-    // safe, since the array is as agc_clear left it
-    assert_eq!(unsafe { agc_novac_trusted(&mut words, 7, 1, 1, 1) }.number, 1);
+    assert_eq!(agc_novac(&mut words, 7, 1, 1, 1).number, 1);
     want(agc_migrate(&mut words));
     assert_eq!(agc_running(&words, 8), AgcNumber { code: OK, number: 1 });
     assert_eq!(agc_value(0o77776), AgcValue { code: OK, value: -1 });

@@ -50,4 +50,3 @@ changed_waits does sets old new words then image opened did kept own written =
 pub changed_phases : (does : List ℕ → List ℕ → Type 0) (sets : ℕ) (old new words then : List ℕ) → IsImage sets old → IsOpened sets old words → does words then → Keeps OutsidePhases words then → phases.IsLawfulTable then → IsWritten then old new → Changed does sets old new
 changed_phases does sets old new words then image opened did kept own written =
     changed does sets old new words then image.count opened did kept.same_length (lawful_by_phases words then kept opened.lawful own) written
-
