@@ -141,7 +141,7 @@ test("rows are those of agc_watch trace", { skip }, () => {
   for (const document of [NAMED, THREE_ALARMS, ...examples.filter((it) => !/^seconds/m.test(it))]) {
     const run = whole(document);
     const names = new Names(run.bench);
-    const { stdout } = spawnSync(WATCH, ["trace", "--json"], { input: document, encoding: "utf8", maxBuffer: 1e9 });
+    const { stdout } = spawnSync(WATCH, ["trace", "--jsonl"], { input: document, encoding: "utf8", maxBuffer: 1e9 });
     for (const row of stdout.trim().split("\n").map((it) => JSON.parse(it))) {
       const seat = (/** @type {any} */ it) => `${called(it.job, it.name)}/${it.priority}`;
       const sets = row.sets.map((/** @type {any} */ it) => (it === null ? "." : it.asleep ? `(${seat(it)})` : it.job === row.newjob ? `>${seat(it)}` : seat(it)));

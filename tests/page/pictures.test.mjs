@@ -1,5 +1,5 @@
 // The pictures of 300 random documents: each is well-formed XML, nothing leaves its frame, no label meets another one, and by
-// their titles every job, area, task and alarm is there that the rows have: those of `agc_watch trace --json` for some of them,
+// their titles every job, area, task and alarm is there that the rows have: those of `agc_watch trace --jsonl` for some of them,
 // where that is built, and of the module for all others. Python makes the documents, and its parser reads the pictures.
 import assert from "node:assert/strict";
 import { spawnSync } from "node:child_process";
@@ -41,7 +41,7 @@ function named(text, k) {
 /** The rows of the document with a number, or null where it is refused. @param {number} k @param {string} text @param {import("../../web/run.js").Run | undefined} run */
 function rowsOf(k, text, run) {
   if (k < TRACED && existsSync(WATCH)) {
-    const { status, stdout } = spawnSync(WATCH, ["trace", "--json"], { input: text, encoding: "utf8", maxBuffer: 1e9 });
+    const { status, stdout } = spawnSync(WATCH, ["trace", "--jsonl"], { input: text, encoding: "utf8", maxBuffer: 1e9 });
     return status === 0 ? stdout.split("\n").filter((it) => it !== "").map((it) => JSON.parse(it)) : null;
   }
   if (run === undefined) return null;

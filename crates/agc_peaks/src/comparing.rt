@@ -52,7 +52,12 @@ fn put(table: &mut Table, jobs: Option<Field<'_>>, names: &Row, pair: Pair<'_>) 
                 table.lines.put("job {}\n", &[jobs]);
                 has_heading = true;
             }
-            fill(table, jobs, names.name_of(place), (pair, place));
+            let name = if table.is_text() {
+                names.name_of(place)
+            } else {
+                names.key_of(place)
+            };
+            fill(table, jobs, name, (pair, place));
             table.end_row();
         }
     }

@@ -60,7 +60,7 @@ impl EraRow {
         let row = &mut table.row;
         row.cell(right("era", "era", 4), Number(self.number));
         row.cell(right("begins", "begins", 8), Seconds(era.began));
-        row.cell(left("by", "by", 7), Text(begin_text(self.by)));
+        row.cell(left("began by", "began_by", 8), Text(begin_text(self.by)));
         row.cell(right("lasts", "lasts", 8), Seconds(self.lasts()));
         row.cell(right("requests", "requests", 8), Number(era.requests));
         row.cell(right("began", "began", 5), Number(era.jobs_begun));

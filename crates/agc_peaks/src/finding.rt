@@ -110,17 +110,18 @@ impl Search<'_> {
         None
     }
 
-    /// Adds the value that was found, in how many runs, and whether a larger one raises no alarm.
+    /// Adds how many values were tried, the one that was found, and whether a larger one raises no
+    /// alarm.
     fn put_summary(&mut self, found: Option<u64>) {
-        let runs = Number(self.trials.len() as u64);
+        let tried = Number(self.trials.len() as u64);
         let Some(found) = found else {
-            let words = "none of these values raises an alarm; {} runs\n";
-            self.sweep.table.lines.put(words, &[runs]);
+            let words = "values tried: {}; none raises an alarm\n";
+            self.sweep.table.lines.put(words, &[tried]);
             return;
         };
-        let fields = [Number(self.value(found)), runs];
+        let fields = [tried, Number(self.value(found))];
         self.sweep.table.lines.put(
-            "the smallest value found that raises an alarm is {}; {} runs\n",
+            "values tried: {}; the smallest that raises an alarm: {}\n",
             &fields,
         );
         if let Some(larger) = self.exception(found) {
@@ -131,8 +132,12 @@ impl Search<'_> {
         }
     }
 
-    /// Looks for the smallest value that raises an alarm, and writes it.
-    fn find<W: Write>(&mut self, scenario: &mut Scenario, writer: &mut W) -> Result<(), RunFault> {
+    /// Looks for the smallest value that raises an alarm, and writes it. Returns whether there is one.
+    fn find<W: Write>(
+        &mut self,
+        scenario: &mut Scenario,
+        writer: &mut W,
+    ) -> Result<bool, RunFault> {
         let mut found = self.first_raising(scenario)?;
         if let Some(raising) = found {
             let least = self.bisect(scenario, raising)?;
@@ -145,14 +150,15 @@ impl Search<'_> {
         if self.sweep.table.is_text() {
             self.put_summary(found);
         }
-        Ok(self.sweep.table.send(writer)?)
+        self.sweep.table.send(writer)?;
+        Ok(found.is_some())
     }
 }
 
 /// Looks for the smallest value of a number with which a scenario raises an alarm, by halving, and
 /// tries a few larger ones. Writes the rows of the values that were tried, in order, as in a
-/// sweep, and then, in a text, what was found. The number keeps the value that was
-/// tried last. The writer is not flushed.
+/// sweep, and then, in a text, what was found. Returns whether a value was. The number keeps the value
+/// that was tried last. The writer is not flushed.
 ///
 /// # Errors
 ///
@@ -164,7 +170,7 @@ pub fn find_alarm<W: Write>(
     axes: &[Axis<'_>; 1],
     form: TableForm,
     writer: &mut W,
-) -> Result<(), RunFault> {
+) -> Result<bool, RunFault> {
     let sweep = SweepWriter::new(alloc, axes, form)?;
     let trials = Vec::new(alloc);
     let mut search = Search { sweep, trials };

@@ -94,16 +94,22 @@ fn fill_totals(row: &mut Row, statistics: &RunStatistics) {
         None => (Text("none"), None),
         Some(first) => (Text(alarm_code(first.alarm)), Some(Seconds(first.time))),
     };
-    row.cell(right("seconds", "", 0), Seconds(statistics.time));
-    row.cell(right("requests", "", 0), Number(statistics.requests));
-    row.cell(right("refused", "", 0), Number(statistics.refused));
-    row.cell(right("eras", "", 0), Number(statistics.number));
-    row.cell(right("alarms", "", 0), Number(peaks.alarms));
-    row.cell(right("first alarm", "", 0), first.0);
-    row.option(right("first alarm at", "", 0), first.1);
-    row.cell(right("most core sets", "", 0), Number(peaks.sets));
-    row.cell(right("most VAC areas", "", 0), Number(peaks.areas));
-    row.cell(right("most tasks", "", 0), Number(peaks.tasks));
+    row.cell(right("seconds", "seconds", 0), Seconds(statistics.time));
+    row.cell(
+        right("requests", "requests", 0),
+        Number(statistics.requests),
+    );
+    row.cell(right("refused", "refused", 0), Number(statistics.refused));
+    row.cell(right("eras", "eras", 0), Number(statistics.number));
+    row.cell(right("alarms", "alarms", 0), Number(peaks.alarms));
+    row.cell(right("first alarm", "first_alarm", 0), first.0);
+    row.option(right("first alarm at", "first_alarm_at", 0), first.1);
+    row.cell(right("most core sets", "most_sets", 0), Number(peaks.sets));
+    row.cell(
+        right("most VAC areas", "most_areas", 0),
+        Number(peaks.areas),
+    );
+    row.cell(right("most tasks", "most_tasks", 0), Number(peaks.tasks));
 }
 
 /// The outcome of a bench or a scenario.

@@ -182,7 +182,8 @@ impl<'a> SweepWriter<'a> {
         peaks_with(self.alloc, scenario, self.axes, &values_of(self.axes, run))
     }
 
-    /// Writes the row of each run.
+    /// Writes the row of each run as soon as it has ended, so that none is lost if the sweep is
+    /// interrupted.
     fn run_all<P: Progress, W: Write>(
         &mut self,
         scenario: &mut Scenario,
@@ -195,6 +196,9 @@ impl<'a> SweepWriter<'a> {
             let peaks = self.run(scenario, run)?;
             self.put(run, &peaks);
             self.table.send(writer)?;
+            if writer.flush().is_err() {
+                return Err(RunFault::Output);
+            }
             progress.done();
         }
         Ok(())
@@ -204,7 +208,7 @@ impl<'a> SweepWriter<'a> {
 /// Runs a scenario once for each value of a number, or for each value of one with each of a second,
 /// and writes a row for each: the values, the first alarm and the second at which it came, how many
 /// alarms came, and the most core sets, VAC areas and places of the Waitlist that were taken at
-/// once. The numbers keep their last values. The writer is not flushed.
+/// once. The writer is flushed after each row. The numbers keep their last values.
 ///
 /// # Errors
 ///

@@ -215,7 +215,7 @@ impl Row {
     }
 
     /// The name of the column at a place in CSV and JSON.
-    pub(crate) fn key_of(&self, place: usize) -> &[u8] {
+    pub fn key_of(&self, place: usize) -> &[u8] {
         let cell = self.cells().get(place);
         cell.map_or(b"".as_slice(), |cell| self.part(cell.name, cell.key))
     }

@@ -15,7 +15,7 @@ const STATUSES: &str = "Exit statuses:
    2  wrong words on the command line
    3  no memory
    4  a read or a write failed
-  10  explore: an order raises the alarm; compare: the runs differ
+  10  explore, sweep --find: the alarm is raised; compare: the runs differ
   11  explore: undecided";
 
 /// The form of a word or an option of a command.
@@ -74,7 +74,7 @@ const JSONL: Argument = (
 const WIDTH: Argument = (
     "width",
     ArgumentKind::Option("N"),
-    "Writes for N columns: below 120, as on a terminal, at most 80",
+    "Writes for N columns, 80 or more: narrow below 120",
 );
 
 const TRACE: CommandSpec = CommandSpec {
@@ -117,7 +117,6 @@ Example: agc_watch trace --alarms examples/no-vac-area.toml",
         ),
         CSV,
         JSONL,
-        ("json", ArgumentKind::Silent, ""),
         WIDTH,
         (
             "perfetto",
@@ -209,7 +208,7 @@ const BENCH: CommandSpec = CommandSpec {
     name: "bench",
     called: "agc_watch bench",
     about: "Writes the bench that a scenario comes to",
-    example: "Example: agc_watch bench scenario.toml | agc serial",
+    example: "Example: agc_watch bench examples/jobs-faster-than-they-end.toml | agc serial",
     arguments: &[FILE],
 };
 
@@ -219,7 +218,7 @@ const PEAKS: CommandSpec = CommandSpec {
     about: "Says for each era how full the tables were, and what ended it",
     example: "\
 era, begins         the era's number, and the second at which it began
-by, ended by        why: the start or the end, an alarm or a restart
+began by, ended by  why: the start or the end, an alarm or a restart
 lasts, requests     its seconds, and how many requests were served in it
 began, ended        how many jobs were established in it, and ended
 sets, areas, tasks  the most in use at once, and the second since which
@@ -262,7 +261,7 @@ const COMPARE: CommandSpec = CommandSpec {
     name: "compare",
     called: "agc_watch compare",
     about: "Says what two benches or scenarios come to that differs",
-    example: "Example: agc_watch compare before.toml after.toml",
+    example: "Example: agc_watch compare examples/landing.toml examples/apollo-11.toml",
     arguments: &[
         (
             "file",
@@ -288,10 +287,9 @@ KEY is sets, steal, seconds, seed, job.NAME.cost, event.NAME.at, event.NAME.ever
 or event.NAME.until. A job without a name is named by its address. If the word
 after TO isn't a number, it is the file.
 
-Example: agc_watch sweep steal 0 20 5 scenario.toml
-Example: agc_watch sweep steal 0 20 5 --and job.SERVICER.cost:150:190:10 scenario.toml
-Example: agc_watch sweep steal 0 100 --find scenario.toml
-Example: agc_watch sweep seed 1 100 scenario.toml",
+Example: agc_watch sweep steal 0 20 5 examples/landing.toml
+Example: agc_watch sweep steal 0 20 5 --and sets:7:8 examples/landing.toml
+Example: agc_watch sweep steal 0 100 --find examples/landing.toml",
     arguments: &[
         (
             "key",

@@ -1,7 +1,7 @@
 //! Sweeps: the numbers of a scenario that they change.
 use crate::documents::scenario_in;
 use crate::program::Console;
-use crate::stops::{Stop, add};
+use crate::stops::{Stop, YES, add};
 use crate::words::{SweepOptions, Values, refused_words};
 use agc_check::NamedText;
 use agc_peaks::{Axis, SweepParameter, find_alarm, run_sweep};
@@ -75,7 +75,8 @@ fn axis_of<'a>(alloc: Global, scenario: &Scenario, values: Values<'a>) -> Result
                     step,
                 });
             }
-            write!(told, "'{key}' may be {least} to {most}")
+            let wrong = if from < least { from } else { to };
+            write!(told, "'{key}' may be {least} to {most}, not {wrong}")
         }
     };
     match added {
@@ -85,7 +86,7 @@ fn axis_of<'a>(alloc: Global, scenario: &Scenario, values: Values<'a>) -> Result
 }
 
 /// Runs a scenario for each value of a number, or of two, or looks for a value that raises an
-/// alarm. The exit status is 0.
+/// alarm. The exit status says whether such a value was found.
 fn sweep_scenario(
     console: &mut Console<'_>,
     asked: SweepOptions<'_>,
@@ -99,14 +100,16 @@ fn sweep_scenario(
         let axes = [first, axis_of(alloc, scenario, values)?];
         run_sweep(alloc, scenario, &axes, form, progress, output)?;
     } else if asked.finds {
-        find_alarm(alloc, scenario, &[first], form, output)?;
+        if find_alarm(alloc, scenario, &[first], form, output)? {
+            return Ok(YES);
+        }
     } else {
         run_sweep(alloc, scenario, &[first], form, progress, output)?;
     }
     Ok(0)
 }
 
-/// Sweeps the scenario that an input is. The exit status is 0.
+/// Sweeps the scenario that an input is. The exit status says whether a value was found.
 pub(crate) fn write_sweep(
     console: &mut Console<'_>,
     asked: SweepOptions<'_>,

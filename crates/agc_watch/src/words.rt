@@ -15,6 +15,9 @@ use std::alloc::Global;
 /// The most states of a search, unless the words name another number.
 const STATES: u64 = 2_000_000;
 
+/// The narrow form of a table takes this many columns.
+const LEAST_WIDTH: u64 = 80;
+
 /// From this many columns on, a whole row of a table fits on one line.
 const WIDE: u64 = 120;
 
@@ -234,10 +237,19 @@ impl<'a, 'b> Words<'a, 'b> {
         number
     }
 
+    /// How many columns texts have to fit, if it is given.
+    fn width(&mut self) -> Option<u64> {
+        let reason = "--width wants a whole number from 80 on";
+        let width = self.number("width", reason);
+        let is_enough = width.is_none_or(|width| width >= LEAST_WIDTH);
+        self.check_word(is_enough, reason, self.given.get_str("width"));
+        width
+    }
+
     /// The form of a table.
     fn form(&mut self, reason: &'static str) -> TableForm {
-        let width = self.number("width", "--width wants a whole number");
-        let lines = self.given.get_flag("jsonl") || self.given.get_flag("json");
+        let width = self.width();
+        let lines = self.given.get_flag("jsonl");
         let csv = self.given.get_flag("csv");
         self.check(!csv || !lines, reason);
         if csv {
