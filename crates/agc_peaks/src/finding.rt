@@ -132,7 +132,8 @@ impl Search<'_> {
         }
     }
 
-    /// Looks for the smallest value that raises an alarm, and writes it. Returns whether there is one.
+    /// Looks for the smallest value that raises an alarm, and writes it. Returns whether there is
+    /// one.
     fn find<W: Write>(
         &mut self,
         scenario: &mut Scenario,
@@ -157,8 +158,8 @@ impl Search<'_> {
 
 /// Looks for the smallest value of a number with which a scenario raises an alarm, by halving, and
 /// tries a few larger ones. Writes the rows of the values that were tried, in order, as in a
-/// sweep, and then, in a text, what was found. Returns whether a value was. The number keeps the value
-/// that was tried last. The writer is not flushed.
+/// sweep, and then, in a text, what was found. Returns whether a value was. The number keeps the
+/// value that was tried last. The writer is not flushed.
 ///
 /// # Errors
 ///
