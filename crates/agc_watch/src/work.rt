@@ -9,7 +9,7 @@ use crate::sweeping::write_sweep;
 use crate::words::{Input as Source, Invocation, Show, Subcommand};
 use crate::workbench::Workbench;
 use agc_check::{ExploredBench, NamedText};
-use agc_explore::{ExploreOptions, ReachStatus, explore, with_endless};
+use agc_explore::{Exploration, ExploreOptions, ReachStatus, explore, with_endless};
 use agc_peaks::{RunSummary, put_differences, scenario_bench, summary_of, write_jobs, write_peaks};
 use agc_play::{PlayFault, PlayOptions, play};
 use agc_program::ProgramFault;
@@ -86,7 +86,12 @@ fn report_orders(
     let (workers, devices) = (flags.repeats.as_slice(), flags.endless.as_slice());
     let rules = with_endless(options.rules, bench, workers, devices);
     let options = ExploreOptions { rules, ..options };
-    match explore(alloc, bench, options, progress, output) {
+    let asked = Exploration {
+        alloc,
+        bench,
+        options,
+    };
+    match explore(&asked, progress, output) {
         Ok(ReachStatus::None) => {
             say_no_bench(console.rt, options);
             Ok(0)
