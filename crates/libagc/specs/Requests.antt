@@ -1,4 +1,4 @@
--- What a request does to the tables alone: no era begins, whatever the reply.
+-- The effect of a request on the tables alone: no era begins, whatever the reply.
 use Rattle.std.specs.Prelude.{◌≡◌, ℕ, List, Some}
 use Rattle.agc_plan.specs.declared.reply.Reply.{Reply}
 use Rattle.agc_plan.specs.declared.reply.Reply.TheVariants.{NoJob}
