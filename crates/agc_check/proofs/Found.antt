@@ -1,19 +1,14 @@
 -- What is found of a document.
-use Rattle.std.proofs.Common.{◌≡◌, ◌∙◌, ℕ, ◌+◌, ◌≤◌, ◌<◌, List, [], ◌∷◌, ◌++◌, length, map, take, get_or, Some, None, sym, ap, ap₂, subst, append-nil, arith}
+use Rattle.std.proofs.Common.{◌≡◌, ◌∙◌, ℕ, ◌+◌, ◌≤◌, ◌<◌, List, [], ◌∷◌, ◌++◌, length, map, take, get_or, sym, ap, ap₂, subst, append-nil, arith}
 use Rattle.std.proofs.lemmas.List.{map-append, take_more, length_push}
 use Rattle.std.proofs.lemmas.List.Elements.{All-nil, All-push}
 use Rattle.std.proofs.lemmas.List.Sorted.{All-permutation, IsPermutation-refl, IsPermutation-map, IsPermutation-append}
 use Rattle.std.specs.List.{All}
 use Rattle.std.specs.List.Sorted.{IsNonDecreasingBy, IsPermutation}
-use Rattle.toml.specs.Data.{Members}
-use Rattle.toml.specs.Parse.{parse_document}
 use Rattle.agc_document.specs.declared.fault.BenchFault.{BenchFault}
 use Rattle.agc_document.specs.declared.fault.BenchFault.TheVariants as refusal
 use Rattle.agc_document.specs.declared.fault.BenchFault.TheVariants.{NoMemory, NotToml, Key, Line, TaskTwice, PhaseTwice, TooManyAreas}
-use Rattle.agc_document.specs.Benches.{Benched, IsBench, bench_texts}
-use Rattle.agc_document.specs.Faults.{HasTexts, RefusesBench}
-use Rattle.agc_check.specs.Findings.{FindingView, IsFindingOf, AreFindingsOf, most_of, AreFindings, Message, message_of, ChecksAs}
-use Rattle.agc_document.proofs.Refusals.{refused_in, texts_of}
+use Rattle.agc_check.specs.Findings.{FindingView, IsFindingOf, AreFindingsOf, most_of, AreFindings, Message, message_of}
 
 -- brought in order
 pub in_order : (document : List ℕ) (k : BenchFault) (fs gs : List FindingView) → All (IsFindingOf document k) fs → IsPermutation fs gs → IsNonDecreasingBy (λ f. f.at) gs → AreFindingsOf document k gs
@@ -83,13 +78,3 @@ says_both ss ts fs gs hs is first second =
 
 pub says_alone : (ss : List Message) (fs : List FindingView) → map message_of fs ≡ ss → IsPermutation ss (map message_of fs)
 says_alone ss fs is = subst (λ x. IsPermutation ss x) (sym is) (IsPermutation-refl ss)
-
--- what comes of a text: it is no document, it is refused, or it is a bench
-pub checks_none : (text : List ℕ) (fs : List FindingView) → parse_document text ≡ None → AreFindings text refusal.NotToml fs → ChecksAs text None fs
-checks_none text fs is h = (refusal.NotToml, is, h)
-
-pub checks_refused : (text : List ℕ) (ms : Members) (k : BenchFault) (fs : List FindingView) → parse_document text ≡ Some ms → RefusesBench (Some ms) k → AreFindings text k fs → ChecksAs text None fs
-checks_refused text ms k fs is refused h = (k, refused_in (parse_document text) ms k is refused, h)
-
-pub checks_bench : (text : List ℕ) (ms : Members) (b : Benched) (fs : List FindingView) → parse_document text ≡ Some ms → fs ≡ [] → IsBench b → HasTexts (Some ms) (bench_texts b) → ChecksAs text (Some b) fs
-checks_bench text ms b fs is none bench has = (none, bench, texts_of (parse_document text) ms (bench_texts b) is has)

@@ -1,9 +1,8 @@
 -- The findings of a document.
 use Rattle.std.specs.Prelude.{◌≡◌, ◌≤◌, ℕ, suc, ◌+◌, ◌==◌, if◌then◌else◌, List, [], ◌∷◌, ◌++◌}
-use Rattle.std.specs.Prelude.{length, take, map, min, Option, Some, None}
+use Rattle.std.specs.Prelude.{length, take, map, min}
 use Rattle.std.specs.List.{All}
 use Rattle.std.specs.List.Sorted.{IsNonDecreasingBy}
-use Rattle.toml.specs.Parse.{parse_document}
 use Rattle.agc_document.specs.declared.fault.BenchFault.{BenchFault}
 use Rattle.agc_document.specs.declared.fault.BenchFault.TheVariants as refusal
 use Rattle.agc_document.specs.declared.key_fault.KeyFault.{KeyFault}
@@ -15,8 +14,6 @@ use Rattle.agc_document.specs.declared.location.Location.{Location}
 use Rattle.agc_document.specs.declared.location.Location.TheVariants.{Whole}
 use Rattle.agc_check.specs.declared.problem.Problem.{Problem}
 use Rattle.agc_check.specs.declared.problem.Problem.TheVariants as wrong
-use Rattle.agc_document.specs.Benches.{Benched, IsBench, bench_texts}
-use Rattle.agc_document.specs.Faults.{HasTexts, RefusesBench}
 
 -- a finding: the byte of the document at which it is, the number of that byte's line, where in the
 -- bench that is, the text that is told, and what is wrong
@@ -140,8 +137,7 @@ to_say refusal.TaskTwice keys texts plan = alone plan wrong.TaskTwice
 to_say refusal.PhaseTwice keys texts plan = alone plan wrong.PhaseTwice
 to_say refusal.TooManyAreas keys texts plan = alone plan wrong.TooManyAreas
 
--- a text has no findings and is a bench, or it is refused for the fault of the first finding
-abbrev pub ChecksAs : List ℕ → Option Benched → List FindingView → Type 0
-ChecksAs text (Some b) fs = (fs ≡ []) × IsBench b × HasTexts (parse_document text) (bench_texts b)
-ChecksAs text None fs = (fault : BenchFault) × RefusesBench (parse_document text) fault
-    × AreFindings text fault fs
+-- a document is refused for this reason, and these are its findings, the first of that fault
+abbrev pub IsRefusedWith : (BenchFault → Type 0) → List ℕ → List FindingView → Type 0
+IsRefusedWith refuses text fs =
+    (fault : BenchFault) × refuses fault × AreFindings text fault fs

@@ -1,5 +1,3 @@
 pub mod Scripts
 pub mod Findings
 pub mod Repeating
-pub mod Documents
-pub mod Checks

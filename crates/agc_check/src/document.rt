@@ -1,8 +1,9 @@
 //! A document, parsed once.
-ghost use Rattle.std.specs.Prelude.{◌≡◌, Some, IfOk, IfErr};
+ghost use Rattle.std.specs.Prelude.{◌≡◌, None, Some, IfOk, MatchResult};
 ghost use Rattle.toml.specs.Parse.{parse_document};
 ghost use Rattle.toml.specs.View.{table_view};
-ghost use Rattle.agc_check.specs.Documents.{IsNoDocument};
+ghost use Rattle.agc_document.specs.declared.fault.BenchFault.TheVariants as refusal;
+ghost use Rattle.agc_check.specs.Findings.{AreFindings};
 
 use crate::finding::Findings;
 use crate::reading::no_document_finding;
@@ -30,41 +31,21 @@ impl<'a> Model for Document<'a> {
     ghost invariant = { λ d. parse_document d.text.now ≡ Some (table_view d.table) };
 }
 
-/// Why a text is no document.
-#[derive(Drop)]
-pub enum NoDocument {
-    NoMemory,
-    /// The text is no TOML, for this reason.
-    NotToml(Findings),
-}
-
-impl From<AllocError> for NoDocument {
-    ghost use Rattle.std.specs.Prelude.{◌≡◌};
-    ghost use Rattle.agc_check.specs.declared.document.NoDocument.TheVariants as no;
-
-    ghost from_gives = { λ _ e. e ≡ no.NoMemory };
-
-    fn from(_error: AllocError) -> NoDocument {
-        NoDocument::NoMemory
-    }
-}
-
 impl<'a> Document<'a> {
-    /// The document that a text is.
+    /// The document that a text is, or why it is none.
     ///
     /// # Errors
     ///
-    /// `NotToml`, or `NoMemory`.
-    pub fn parse(alloc: Global, text: &'a str) -> Result<Document<'a>, NoDocument>
-        ensures found { IfOk result (λ d. d ≡ text.entry.now) }
-        ensures refused { IfErr result (IsNoDocument text.entry.now) }
+    /// If memory runs out.
+    pub fn parse(alloc: Global, text: &'a str) -> Result<Result<Document<'a>, Findings>, AllocError>
+        ensures { IfOk result (λ read. MatchResult read
+            (λ d. d ≡ text.entry.now)
+            (λ fs. (parse_document text.entry.now ≡ None)
+            × AreFindings text.entry.now refusal.NotToml fs)) }
     {
         match table_of(alloc, text)? {
-            Ok(table) => Ok(Document { text, table }),
-            Err(error) => {
-                let found = no_document_finding(alloc, text, &error)?;
-                Err(NoDocument::NotToml(found))
-            }
+            Ok(table) => Ok(Ok(Document { text, table })),
+            Err(error) => Ok(Err(no_document_finding(alloc, text, &error)?)),
         }
     }
 

@@ -1,16 +1,14 @@
 //! The findings of a document, and where they are.
-ghost use Rattle.std.specs.Prelude.{◌≡◌, ◌≤◌, [], length, map, IfOk, OnOk};
+ghost use Rattle.std.specs.Prelude.{◌≡◌, ◌≤◌, length, map, IfOk, OnOk};
 ghost use Rattle.std.specs.List.{All};
 ghost use Rattle.std.specs.List.Sorted.{IsNonDecreasingBy, IsPermutation};
 ghost use Rattle.agc_check.specs.Findings.{line_ends, line_of, StandsIn, refusal_of};
 ghost use Rattle.agc_check.specs.Findings.{IsFindingOf, AreFindingsOf, Message, say, message_of};
 ghost use Rattle.agc_check.specs.Findings.{of_key, of_text};
-ghost use Rattle.agc_check.specs.declared.problem.Problem.TheVariants as wrong_of;
 ghost use Rattle.agc_document.specs.declared.fault.BenchFault.{BenchFault};
 ghost use Rattle.agc_document.specs.declared.fault.BenchFault.TheVariants as refusal;
-ghost use Rattle.agc_document.specs.declared.location.Location.TheVariants as place_of;
 
-use crate::locate::{HasPath, Position, spots_of};
+use crate::locate::{KeyPath, PathStep, Position, spots_of, way_to};
 use crate::problem::Problem;
 use agc_document::{KeyFault, KeyNote, Location, TextForm, TextNote};
 use std::alloc::{AllocError, Global};
@@ -58,18 +56,6 @@ impl Model for Findings {
     ghost view = { λ f. f.list.items };
 }
 
-impl Findings {
-    /// None at all.
-    pub(crate) fn none(alloc: Global) -> Findings
-        ensures { result ≡ [] }
-    {
-        Findings {
-            list: Vec::new(alloc),
-            more: 0,
-        }
-    }
-}
-
 /// The number of line ends in a text.
 fn line_ends(text: &[u8]) -> u64
     ensures value { result ≡ line_ends text.now }
@@ -87,7 +73,7 @@ fn line_ends(text: &[u8]) -> u64
 /// The number of the line that has this byte of a document; the last line if the document ends
 /// before it.
 #[tactic(auto, using(crate::proofs::Lines::ends_before))]
-pub fn line_at(document: &str, at: usize) -> u64
+pub(crate) fn line_at(document: &str, at: usize) -> u64
     ensures line { result ≡ line_of document.now at }
     ensures stands { StandsIn document.now result }
 {
@@ -95,50 +81,59 @@ pub fn line_at(document: &str, at: usize) -> u64
     line_ends(&bytes[..at.min(bytes.len())]) + 1
 }
 
-/// A report on one byte of a document: its place in the bench, its text, and the error there.
+/// What is wrong at a place, and the text to quote.
 #[derive(Clone, Copy)]
-pub(crate) struct FindingText<'a> {
-    pub at: usize,
-    pub place: Location,
-    pub text: &'a str,
-    pub wrong: Problem,
+pub(crate) struct Remark<'a> {
+    pub(crate) place: Location,
+    pub(crate) text: &'a str,
+    pub(crate) wrong: Problem,
 }
 
-impl<'a> FindingText<'a> {
-    /// A report on the document as a whole, at one of its bytes.
-    pub(crate) fn of_whole(at: usize, text: &'a str, wrong: Problem) -> FindingText<'a>
-        ensures at { result.at ≡ at }
-        ensures place { result.place ≡ place_of.Whole }
-        ensures text { result.text.now ≡ text.now }
-        ensures wrong { result.wrong ≡ wrong }
-    {
-        FindingText {
-            at,
-            place: Location::Whole,
-            text,
-            wrong,
-        }
+impl<'a> Remark<'a> {
+    /// The way to what is wrong.
+    pub(crate) fn way(&self) -> KeyPath<'a> {
+        let unknown = match self.wrong {
+            Problem::Key(KeyFault::Unknown(_level)) => Some(PathStep::Name(self.text)),
+            _ => None,
+        };
+        way_to(self.place, unknown)
     }
 }
 
-/// Makes the finding at one byte of a document.
-pub(crate) fn make_finding(
+/// The text to quote for what is wrong at this spot.
+fn text_of<'a>(document: &'a str, remark: Remark<'a>, spot: Position) -> &'a str
+    ensures { say remark.entry.place remark.entry.wrong result.now
+        ≡ say remark.entry.place remark.entry.wrong remark.entry.text.now }
+{
+    match remark.wrong {
+        Problem::Key(KeyFault::NoneAbove(_)) => quoted_at(document, spot.value),
+        Problem::Key(KeyFault::Value(key) | KeyFault::Item(key)) => match key.form() {
+            Some(TextForm::Address | TextForm::Word) => digits_at(document, spot.value),
+            _ => "",
+        },
+        _ => remark.text,
+    }
+}
+
+/// Makes the finding at one spot of a document.
+pub(crate) fn make_finding<'a>(
     alloc: Global,
-    document: &str,
-    finding_text: FindingText<'_>,
+    document: &'a str,
+    remark: Remark<'a>,
+    spot: Position,
 ) -> Result<Finding, AllocError>
     ensures found { IfOk result (λ f. IsFindingOf document.now
-        (refusal_of finding_text.entry.wrong) f) }
+        (refusal_of remark.entry.wrong) f) }
     ensures says { IfOk result (λ f. message_of f
-        ≡ say finding_text.entry.place finding_text.entry.wrong finding_text.entry.text.now) }
+        ≡ say remark.entry.place remark.entry.wrong remark.entry.text.now) }
 {
-    let at = finding_text.at.min(document.len());
+    let at = spot.at.min(document.len());
     Ok(Finding {
         at,
         line: line_at(document, at),
-        place: finding_text.place,
-        text: String::from_str(alloc, finding_text.text)?,
-        wrong: finding_text.wrong,
+        place: remark.place,
+        text: String::from_str(alloc, text_of(document, remark, spot))?,
+        wrong: remark.wrong,
     })
 }
 
@@ -152,72 +147,41 @@ fn put_in_order(findings: &mut Vec<Finding>) -> Result<(), AllocError>
     Ok(())
 }
 
-/// Whether a value goes on if this byte comes next.
-fn goes_on(byte: u8) -> bool {
-    byte.is_ascii_alphanumeric() || matches!(byte, b'_' | b'.' | b':' | b'-' | b'+')
-}
-
 /// The digits at a byte of a document if they are a value of their own; otherwise nothing.
 fn digits_at(document: &str, at: usize) -> &str {
+    let goes_on = |letter: char| letter.is_ascii_alphanumeric() || "_.:-+".contains(letter);
     let rest = document.get(at..).unwrap_or("");
-    let count = rest
-        .as_bytes()
-        .iter()
-        .take_while(|byte| byte.is_ascii_digit())
-        .count();
-    match rest.as_bytes().get(count) {
-        Some(next) if goes_on(*next) => "",
-        _ => rest.get(..count).unwrap_or(""),
+    let (word, _others) = rest
+        .split_once(|letter| !goes_on(letter))
+        .unwrap_or((rest, ""));
+    if word.bytes().all(|byte| byte.is_ascii_digit()) {
+        word
+    } else {
+        ""
     }
 }
 
 /// The text between quotes at a byte of a document; nothing if there are none.
 fn quoted_at(document: &str, at: usize) -> &str {
     let rest = document.get(at..).unwrap_or("");
-    let quote = if rest.starts_with("\"\"\"") {
-        "\"\"\""
-    } else if rest.starts_with("'''") {
-        "'''"
-    } else if rest.starts_with('"') {
-        "\""
-    } else {
-        "'"
-    };
-    let behind = rest.strip_prefix(quote).unwrap_or("");
-    match behind.split_once(quote) {
-        Some((text, _rest)) => text,
-        None => "",
+    for quote in ["\"\"\"", "'''", "\"", "'"] {
+        if let Some(behind) = rest.strip_prefix(quote) {
+            return behind.split_once(quote).unwrap_or(("", "")).0;
+        }
     }
-}
-
-/// The text to quote for a fault of a key.
-fn key_text<'a>(document: &'a str, note: &KeyNote<'a>, spot: Position) -> &'a str
-    ensures { say note.now.place (wrong_of.Key note.now.fault) result.now ≡ of_key note.now }
-{
-    match note.fault {
-        KeyFault::Unknown(_level) => note.text,
-        KeyFault::Missing(_key) => "",
-        KeyFault::Backward | KeyFault::OverlapsItself => "",
-        KeyFault::Overlap | KeyFault::JobTwice => "",
-        KeyFault::LeastAboveMost | KeyFault::NoSeed => "",
-        KeyFault::NoneAbove(_) => quoted_at(document, spot.value),
-        KeyFault::Value(key) | KeyFault::Item(key) => match key.form() {
-            Some(TextForm::Address) | Some(TextForm::Word) => digits_at(document, spot.value),
-            _ => "",
-        },
-    }
+    ""
 }
 
 /// A note about a document: a fault of a key, or a text that isn't of its form.
-pub(crate) trait Note<'a>: HasPath<'a> + Copy {
+pub(crate) trait Note<'a>: Copy {
     /// The fault of a bench that has such an error.
     ghost fault: { BenchFault };
 
     /// The contents of the finding that reports it.
     ghost says: { Self → Message };
 
-    /// The report on this note at a spot.
-    fn finding_text(&self, document: &'a str, spot: Position) -> FindingText<'a>
+    /// What it says.
+    fn remark(&self) -> Remark<'a>
         ensures fault { refusal_of result.wrong ≡ fault }
         ensures says { say result.place result.wrong result.text.now ≡ says self.now };
 }
@@ -227,11 +191,13 @@ impl<'a> Note<'a> for KeyNote<'a> {
 
     ghost says = { of_key };
 
-    fn finding_text(&self, document: &'a str, spot: Position) -> FindingText<'a> {
-        FindingText {
-            at: spot.at,
+    fn remark(&self) -> Remark<'a> {
+        Remark {
             place: self.place,
-            text: key_text(document, self, spot),
+            text: match self.fault {
+                KeyFault::Unknown(_level) => self.text,
+                _ => "",
+            },
             wrong: Problem::Key(self.fault),
         }
     }
@@ -242,21 +208,12 @@ impl<'a> Note<'a> for TextNote<'a> {
 
     ghost says = { of_text };
 
-    fn finding_text(&self, _document: &'a str, spot: Position) -> FindingText<'a> {
-        FindingText {
-            at: spot.at,
+    fn remark(&self) -> Remark<'a> {
+        Remark {
             place: self.place,
             text: self.text,
             wrong: Problem::Text(self.form),
         }
-    }
-}
-
-/// The spot with this number, or the beginning of the document if there are fewer.
-fn spot_at(spots: &[Position], k: usize) -> Position {
-    match spots.get(k) {
-        Some(spot) => *spot,
-        None => Position { at: 0, value: 0 },
     }
 }
 
@@ -273,11 +230,25 @@ fn findings_at<'a, N: Note<'a>>(
 {
     let mut found: Vec<Finding> = Vec::new(alloc);
     for note in notes {
-        let finding_text = note.finding_text(document, spot_at(spots, found.len()));
-        let one = make_finding(alloc, document, finding_text)?;
+        let spot = spots.get(found.len()).copied().unwrap_or_default();
+        let remark = note.remark();
+        let one = make_finding(alloc, document, remark, spot)?;
         found.push(one)?;
     }
     Ok(found)
+}
+
+/// The spots of these notes.
+fn note_spots<'a, N: Note<'a>>(
+    alloc: Global,
+    document: &str,
+    notes: &[N],
+) -> Result<Vec<Position>, AllocError> {
+    let mut ways = Vec::new(alloc);
+    for note in notes {
+        ways.push(note.remark().way())?;
+    }
+    spots_of(alloc, document, ways.as_slice())
 }
 
 /// The findings that report these notes, in the order of the document.
@@ -292,7 +263,7 @@ pub(crate) fn findings_of<'a, N: Note<'a>>(
     ensures says { IfOk result (λ v. IsPermutation (map N.says notes.now)
         (map message_of v.items)) }
 {
-    let spots = spots_of(alloc, document, notes)?;
+    let spots = note_spots(alloc, document, notes)?;
     let mut found = findings_at(alloc, document, notes, spots.as_slice())?;
     put_in_order(&mut found)?;
     Ok(found)

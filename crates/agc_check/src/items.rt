@@ -1,4 +1,5 @@
 //! The items that a bench lists and sets, with their places.
+use crate::gathered::Gathered;
 use agc_document::rows::{
     ACTION, DEVICES, KEY, LINE, LISTING, PHASES, RADAR, REQUESTS, SCRIPT, TASKS, WORKERS,
 };
@@ -22,103 +23,76 @@ pub(crate) enum Item {
     Device(Line),
 }
 
-/// Items with their places, and whether memory ran out for one.
-#[derive(Drop)]
-struct Items {
-    list: Vec<(Location, Item)>,
-    failed: bool,
+type Items = Gathered<(Location, Item)>;
+
+/// Adds the items of requests, which are those of the array at a place.
+fn add_requests(items: &mut Items, at: Location, requests: &[Request]) {
+    for (number, request) in (1u64..).zip(requests) {
+        let place = at.of_item(number);
+        match *request {
+            Request::List(_delay, task) => items.add((place, Item::Lists(task, None))),
+            Request::SetPhase(group, phase) => items.add((place, Item::Sets(group, phase))),
+            _ => {}
+        }
+    }
 }
 
-impl Items {
-    /// Adds an item.
-    fn add(&mut self, place: Location, item: Item) {
-        if self.list.push((place, item)).is_err() {
-            self.failed = true;
+/// Adds the items of the actions at a place, perhaps those of a task's row. A single action has no
+/// place of its own.
+fn add_actions(items: &mut Items, at: Location, row: &Option<Task>, actions: &[Action]) {
+    for (number, action) in (1u64..).zip(actions) {
+        if let Action::List(_delay, task) = *action {
+            let place = match actions {
+                [_] => at,
+                _ => at.of_item(number),
+            };
+            items.add((place, Item::Lists(task, *row)));
         }
     }
+}
 
-    /// All items, unless memory ran out.
-    fn into_list(self) -> Result<Vec<(Location, Item)>, AllocError> {
-        if self.failed {
-            Err(AllocError)
-        } else {
-            Ok(self.list)
+/// Adds the rows of tasks and the phase entries.
+fn add_plan(items: &mut Items, bench: &Bench) {
+    for (number, (task, actions)) in (1u64..).zip(bench.rows()) {
+        let at = Location::Field(TASKS, number, ACTION);
+        add_actions(items, at, &Some(*task), actions.as_slice());
+        items.add((Location::Table(TASKS, number), Item::Row(*task)));
+    }
+    for (number, entry) in (1u64..).zip(bench.entries()) {
+        if let Some((_delay, task)) = entry.task() {
+            let place = Location::Field(PHASES, number, LISTING);
+            items.add((place, Item::Lists(task, None)));
         }
     }
+}
 
-    /// Adds the items of requests, which are those of the array at a place.
-    fn add_requests(&mut self, at: Location, requests: &[Request]) {
-        for (k, request) in requests.iter().enumerate() {
-            let place = at.of_item(k as u64 + 1);
-            match *request {
-                Request::List(_delay, task) => self.add(place, Item::Lists(task, None)),
-                Request::SetPhase(group, phase) => self.add(place, Item::Sets(group, phase)),
-                _ => {}
-            }
-        }
+/// Adds the items of a bench, in the order of its keys.
+fn add_bench(items: &mut Items, bench: &Bench) {
+    add_actions(items, Location::Value(KEY), &None, bench.key().as_slice());
+    add_actions(
+        items,
+        Location::Value(RADAR),
+        &None,
+        bench.radar().as_slice(),
+    );
+    add_requests(items, Location::Value(SCRIPT), bench.script());
+    add_plan(items, bench);
+    for (number, worker) in (1u64..).zip(bench.workers()) {
+        let at = Location::Field(WORKERS, number, REQUESTS);
+        add_requests(items, at, worker.as_slice());
     }
-
-    /// Adds the items of the actions at a place, perhaps those of a task's row. A single action has
-    /// no place of its own.
-    fn add_actions(&mut self, at: Location, row: &Option<Task>, actions: &[Action]) {
-        for (k, action) in actions.iter().enumerate() {
-            if let Action::List(_delay, task) = *action {
-                let place = match actions {
-                    [_] => at,
-                    _ => at.of_item(k as u64 + 1),
-                };
-                self.add(place, Item::Lists(task, *row));
-            }
-        }
+    for (number, (line, _pulses)) in (1u64..).zip(bench.devices()) {
+        items.add((Location::Field(DEVICES, number, LINE), Item::Device(*line)));
     }
+}
 
-    /// Adds the rows of tasks and the phase entries.
-    fn add_plan(&mut self, bench: &Bench) {
-        for (k, (task, actions)) in bench.rows().iter().enumerate() {
-            let number = k as u64 + 1;
-            let at = Location::Field(TASKS, number, ACTION);
-            self.add_actions(at, &Some(*task), actions.as_slice());
-            self.add(Location::Table(TASKS, number), Item::Row(*task));
-        }
-        for (k, entry) in bench.entries().iter().enumerate() {
-            if let Some((_delay, task)) = entry.task() {
-                let number = k as u64 + 1;
-                let place = Location::Field(PHASES, number, LISTING);
-                self.add(place, Item::Lists(task, None));
-            }
-        }
+/// Adds the items of a scenario's jobs and events.
+fn add_timed(items: &mut Items, timing: &Timing) {
+    for (number, job) in (1u64..).zip(timing.jobs()) {
+        add_requests(items, Location::Field(JOBS, number, THEN), job.requests());
     }
-
-    /// Adds the items of a bench, in the order of its keys.
-    fn add_bench(&mut self, bench: &Bench) {
-        self.add_actions(Location::Value(KEY), &None, bench.key().as_slice());
-        self.add_actions(Location::Value(RADAR), &None, bench.radar().as_slice());
-        self.add_requests(Location::Value(SCRIPT), bench.script());
-        self.add_plan(bench);
-        for (k, worker) in bench.workers().iter().enumerate() {
-            let number = k as u64 + 1;
-            let at = Location::Field(WORKERS, number, REQUESTS);
-            self.add_requests(at, worker.as_slice());
-        }
-        for (k, (line, _pulses)) in bench.devices().iter().enumerate() {
-            let number = k as u64 + 1;
-            let place = Location::Field(DEVICES, number, LINE);
-            self.add(place, Item::Device(*line));
-        }
-    }
-
-    /// Adds the items of a scenario's jobs and events.
-    fn add_timed(&mut self, timing: &Timing) {
-        for (k, job) in timing.jobs().iter().enumerate() {
-            let number = (k as u64).saturating_add(1);
-            let at = Location::Field(JOBS, number, THEN);
-            self.add_requests(at, job.requests());
-        }
-        for (k, event) in timing.all_events().iter().enumerate() {
-            let number = (k as u64).saturating_add(1);
-            let at = Location::Field(EVENTS, number, DO);
-            self.add_requests(at, event.requests());
-        }
+    for (number, event) in (1u64..).zip(timing.all_events()) {
+        add_requests(items, Location::Field(EVENTS, number, DO), event.requests());
     }
 }
 
@@ -127,13 +101,10 @@ pub(crate) fn items_of(
     alloc: Global,
     subject: Subject<'_>,
 ) -> Result<Vec<(Location, Item)>, AllocError> {
-    let mut items = Items {
-        list: Vec::new(alloc),
-        failed: false,
-    };
-    items.add_bench(subject.bench());
+    let mut items = Gathered::new(alloc);
+    add_bench(&mut items, subject.bench());
     if let Some(timing) = subject.timing() {
-        items.add_timed(timing);
+        add_timed(&mut items, timing);
     }
     items.into_list()
 }

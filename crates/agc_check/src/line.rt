@@ -30,13 +30,7 @@ const BYTE_ORDER_MARK: &str = "it begins with a byte order mark, which a script 
 
 const OF_BENCH: &str = "this looks like a bench, not a script: leave out --script";
 
-const TAB: &str = "it has a tab; words are separated by single spaces";
-
-const CAPITALS: &str = "write \"{}\" in lowercase";
-
 const MEANT: &str = "its first word is unknown; did you mean \"{}\"?";
-
-const FORM: &str = "it has the form \"{}\", with single spaces";
 
 /// The fault of a line of this kind.
 fn wrong_words(text: &str, kind: LineForm) -> LineFault {
@@ -65,15 +59,14 @@ pub(crate) fn fault_of(kinds: &[LineForm], text: &str) -> LineFault {
         return LineFault::Tab;
     }
     let (word, _rest) = text.split_once(' ').unwrap_or((text, ""));
+    let bytes = word.as_bytes();
+    let in_capitals = |kind: &&LineForm| kind.name().as_bytes().eq_ignore_ascii_case(bytes);
     if let Some(kind) = with_name(word, kinds) {
-        return wrong_words(text, kind);
-    }
-    let is_small = |kind: &LineForm| {
-        kind.name().as_bytes().eq_ignore_ascii_case(word.as_bytes())
-    };
-    match kinds.iter().find(|kind| is_small(kind)) {
-        Some(kind) => LineFault::Capitals(*kind),
-        None => LineFault::Unknown(meant_by(word, kinds)),
+        wrong_words(text, kind)
+    } else if let Some(kind) = kinds.iter().find(in_capitals) {
+        LineFault::Capitals(*kind)
+    } else {
+        LineFault::Unknown(meant_by(word, kinds))
     }
 }
 
@@ -92,13 +85,13 @@ impl LineFault {
         let (text, filling) = match self {
             LineFault::Empty => ("a line may not be empty", ""),
             LineFault::CarriageReturn => ("a line ends with LF alone, not with CR LF", ""),
-            LineFault::Tab => (TAB, ""),
+            LineFault::Tab => ("it has a tab; words are separated by single spaces", ""),
             LineFault::ByteOrderMark => (BYTE_ORDER_MARK, ""),
             LineFault::OfBench => (OF_BENCH, ""),
-            LineFault::Capitals(kind) => (CAPITALS, kind.name()),
+            LineFault::Capitals(kind) => ("write \"{}\" in lowercase", kind.name()),
             LineFault::Unknown(None) => (NO_REQUEST, ""),
             LineFault::Unknown(Some(kind)) => (MEANT, kind.name()),
-            LineFault::Form(kind) => (FORM, kind.form()),
+            LineFault::Form(kind) => ("it has the form \"{}\", with single spaces", kind.form()),
             LineFault::Operand(part) => ("{}", part.spelling()),
         };
         message_of(text, Text(filling), NONE)

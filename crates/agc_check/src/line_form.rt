@@ -6,19 +6,12 @@ use agc_text::numbers::{address, delay, group, phase, place, priority, word};
 /// The form of a word of a line, after the first.
 #[derive(Clone, Copy)]
 pub enum LineWord {
-    /// Two octal digits, 01 to 37.
     Priority,
-    /// Five octal digits, 00001 to 37777.
     Address,
-    /// Five octal digits.
     Word,
-    /// 1 to 16250, decimal.
     Delay,
-    /// 1 to 6.
     Place,
-    /// 1 to 6.
     Group,
-    /// 0 to 127, decimal.
     Phase,
 }
 

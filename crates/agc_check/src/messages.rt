@@ -1,5 +1,5 @@
 //! Sentences: texts with gaps, and the fields for the gaps.
-use agc_text::Field::Text;
+use agc_text::Field::{Number, Text};
 use agc_text::{Buffer, Field};
 
 /// A text that was read, and what a message about it has before the number of a line: `FILE:` for
@@ -15,6 +15,9 @@ pub type Message<'a> = (&'static str, [Field<'a>; 5]);
 
 /// For a gap that a text doesn't have.
 pub(crate) const NONE: Field<'static> = Text("");
+
+/// The most findings, and the most warnings, that are reported.
+pub(crate) const MOST_TOLD: usize = 20;
 
 /// How many letters of a text are quoted at most.
 const MOST_QUOTED: usize = 60;
@@ -38,6 +41,18 @@ pub(crate) fn put_message(out: &mut Buffer, (text, fields): Message<'_>) {
     out.put(text, &fields);
 }
 
+/// Adds the number of a line, after the text that comes before it, and a mark.
+pub(crate) fn put_where<'a>(out: &mut Buffer, before_line: &'a str, line: u64, mark: &'a str) {
+    out.put("{}{}: {}", &[Text(before_line), Number(line), Text(mark)]);
+}
+
+/// Adds how many more findings there are, if there are any.
+pub(crate) fn put_more(out: &mut Buffer, count: usize) {
+    if count > 0 {
+        out.put("and {} more\n", &[Number(count as u64)]);
+    }
+}
+
 /// Whether a letter moves the cursor, ends a line, or turns the writing direction.
 fn moves(letter: char) -> bool {
     matches!(
@@ -56,4 +71,10 @@ pub(crate) fn front_of(text: &str) -> (Field<'_>, Field<'static>) {
         }
     }
     (Text(text), NONE)
+}
+
+/// Adds the front of a text in quotes, and a colon.
+pub(crate) fn put_quoted(out: &mut Buffer, text: &str) {
+    let (front, dots) = front_of(text);
+    out.put("\"{}{}\": ", &[front, dots]);
 }

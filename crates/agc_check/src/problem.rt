@@ -1,8 +1,5 @@
 //! Why a document is no bench.
-ghost use Rattle.std.specs.Prelude.{◌≡◌};
-ghost use Rattle.agc_check.specs.Findings.{refusal_of};
-
-use agc_document::{BenchFault, KeyFault, TextForm};
+use agc_document::{KeyFault, TextForm};
 
 /// Why a document is no bench, at one place.
 #[derive(Clone, Copy)]
@@ -23,20 +20,4 @@ pub enum Problem {
     PhaseTwice,
     /// Each of the six groups has an entry whose job wants a VAC area.
     TooManyAreas,
-}
-
-impl Problem {
-    /// The fault for which a bench with this error is refused.
-    pub fn fault(self) -> BenchFault
-        ensures { result ≡ refusal_of self }
-    {
-        match self {
-            Problem::NotToml | Problem::NoQuotes | Problem::NoKeys => BenchFault::NotToml,
-            Problem::Key(_fault) => BenchFault::Key,
-            Problem::Text(_form) => BenchFault::Line,
-            Problem::TaskTwice => BenchFault::TaskTwice,
-            Problem::PhaseTwice => BenchFault::PhaseTwice,
-            Problem::TooManyAreas => BenchFault::TooManyAreas,
-        }
-    }
 }

@@ -35,12 +35,8 @@ pub struct RunCounts {
 impl RunCounts {
     /// Counts one more alarm.
     fn count_alarm(&mut self, alarm: Alarm) {
-        let place = match alarm {
-            Alarm::A1201 => 0,
-            Alarm::A1202 => 1,
-            Alarm::A1203 => 2,
-        };
-        self.alarms[place] = self.alarms[place].saturating_add(1);
+        let count = &mut self.alarms[alarm as usize];
+        *count = count.saturating_add(1);
     }
 
     /// Counts one more request with this answer, in which this many tasks fired.

@@ -1,70 +1,77 @@
 //! The warnings about stolen time, jobs and events of a scenario.
+use crate::gathered::Gathered;
 use crate::messages::{Message, NONE, message_of, plain};
-use crate::warning::{
-    AS_LONG_AS_IT_COMES, HIDDEN, LATE, NEVER, NEVER_STOLEN, NOT_AGAIN, NOT_BEGUN, NOTHING_LEFT,
-    TWIN,
-};
-use crate::warnings::{Warning, WarningList};
+use crate::warnings::{Warnings, note};
 use agc_clock::{LAST_TIME, Stolen, stolen_at};
-use agc_document::{Key, Location};
-use agc_plan::{Action, Actions, Address, JobStart, PhaseEntry, Request, Task, action_request};
+use agc_document::{Bench, Location};
+use agc_plan::{Action, Actions, Address, JobStart, Request, Task, action_request};
 use agc_scenario::rows::{EVENTS, JOBS, STEAL};
 use agc_scenario::{Scenario, TimedEvent, TimedJob, Timing};
 use agc_text::Field::{Number, Text};
 use std::alloc::{AllocError, Global};
 use std::collections::BTreeSet;
 
-/// The place of a row, which is counted from 0.
-fn row_at(key: Key, row: usize) -> Location {
-    Location::Table(key, (row as u64).saturating_add(1))
-}
+const NOT_AGAIN: &str = "without every, until says nothing: it comes once";
 
-/// Whether a job may begin at an address by this request, or be awakened there.
-fn may_begin_at(request: &Request, at: Address) -> bool {
+/// The addresses at which jobs begin or are awakened, each with the centiseconds after which that
+/// comes again there, if it does.
+type Beginnings = Gathered<(Address, Option<u64>)>;
+
+/// Adds the address at which a job begins by this request, or is awakened.
+fn add_request(found: &mut Beginnings, request: &Request, period: Option<u64>) {
     match *request {
-        Request::Novac(_priority, entry) | Request::Findvac(_priority, entry) => entry.at == at,
-        Request::Sleep(awakened) => awakened == at,
-        _ => false,
+        Request::Novac(_priority, entry) | Request::Findvac(_priority, entry) => {
+            found.add((entry.at, period));
+        }
+        Request::Sleep(awakened) => found.add((awakened, period)),
+        _ => {}
     }
 }
 
-/// Whether a job may begin at an address by one of these actions.
-fn is_begun_by(actions: &Actions, at: Address) -> bool {
-    for action in actions.as_slice() {
-        if let Some(request) = action_request(*action) {
-            if may_begin_at(&request, at) {
-                return true;
+/// The centiseconds after which a task lists itself again by one of these actions.
+fn period_of(task: Task, actions: &Actions) -> Option<u64> {
+    let own_delay = |action: &Action| match *action {
+        Action::List(delay, listed) if listed == task => Some(u64::from(delay.get())),
+        _ => None,
+    };
+    actions.as_slice().iter().filter_map(own_delay).min()
+}
+
+/// Where anything of a bench begins a job.
+fn add_bench(found: &mut Beginnings, bench: &Bench) {
+    for (task, actions) in bench.rows() {
+        let period = period_of(*task, actions);
+        for action in actions.as_slice() {
+            if let Some(request) = action_request(*action) {
+                add_request(found, &request, period);
             }
         }
     }
-    false
-}
-
-/// Whether a job begins at an address with an era in which this entry holds.
-fn begins_again(phase: &PhaseEntry, at: Address) -> bool {
-    let Some(job) = phase.job() else {
-        return false;
-    };
-    match job {
-        JobStart::Novac(_priority, entry) | JobStart::Findvac(_priority, entry) => entry.at == at,
+    for entry in bench.entries() {
+        if let Some(JobStart::Novac(_, entry) | JobStart::Findvac(_, entry)) = entry.job() {
+            found.add((entry.at, None));
+        }
     }
 }
 
-/// Whether anything of a scenario begins a job at an address.
-fn is_begun(scenario: &Scenario, at: Address) -> bool {
-    let bench = scenario.bench();
-    let timing = scenario.timing();
-    let by_event = timing.all_events().iter().any(|event| event
-        .requests()
-        .iter()
-        .any(|request| may_begin_at(request, at)));
-    by_event
-        || bench.rows().iter().any(|row| is_begun_by(&row.1, at))
-        || bench.entries().iter().any(|entry| begins_again(entry, at))
-        || timing.jobs().iter().any(|job| job
-            .requests()
-            .iter()
-            .any(|request| may_begin_at(request, at)))
+/// Where anything of a scenario begins a job.
+fn beginnings_of(
+    alloc: Global,
+    scenario: &Scenario,
+) -> Result<Vec<(Address, Option<u64>)>, AllocError> {
+    let mut found = Gathered::new(alloc);
+    add_bench(&mut found, scenario.bench());
+    for event in scenario.timing().all_events() {
+        for request in event.requests() {
+            add_request(&mut found, request, event.every().map(u64::from));
+        }
+    }
+    for job in scenario.timing().jobs() {
+        for request in job.requests() {
+            add_request(&mut found, request, None);
+        }
+    }
+    found.into_list()
 }
 
 /// The percentage that is stolen in every centisecond, at least. Nothing is computed before the
@@ -80,82 +87,30 @@ fn stolen_always(timing: &Timing) -> u64 {
     u64::from(least)
 }
 
-/// The smaller of two numbers, of which the first may be missing.
-fn lesser(first: Option<u64>, second: u64) -> Option<u64> {
-    match first {
-        None => Some(second),
-        Some(first) => Some(first.min(second)),
+/// The warning about a job, if there is one; jobs begin there, and this percentage is always stolen.
+fn job_message(
+    job: &TimedJob,
+    beginnings: &[(Address, Option<u64>)],
+    stolen: u64,
+) -> Option<Message<'static>> {
+    let here = || beginnings.iter().filter(|one| one.0 == job.at());
+    if here().count() == 0 {
+        return Some(plain("nothing begins a job at this address"));
     }
-}
-
-/// The centiseconds after which a task lists itself again by one of these actions.
-fn period_of(task: Task, actions: &Actions) -> Option<u64> {
-    let mut least = None;
-    for action in actions.as_slice() {
-        match *action {
-            Action::List(delay, listed) if listed == task => {
-                least = lesser(least, u64::from(delay.get()));
-            }
-            _ => {}
-        }
-    }
-    least
-}
-
-/// The centiseconds after which an event begins a job again at an address.
-fn period_by_events(timing: &Timing, at: Address) -> Option<u64> {
-    let mut least = None;
-    for event in timing.all_events() {
-        if let Some(every) = event.every() {
-            if event
-                .requests()
-                .iter()
-                .any(|request| may_begin_at(request, at))
-            {
-                least = lesser(least, u64::from(every));
-            }
-        }
-    }
-    least
-}
-
-/// The shortest time, in centiseconds, after which an event or a task begins a job again at an
-/// address.
-fn period_at(scenario: &Scenario, at: Address) -> Option<u64> {
-    let mut least = period_by_events(scenario.timing(), at);
-    for (task, actions) in scenario.bench().rows() {
-        if is_begun_by(actions, at) {
-            if let Some(period) = period_of(*task, actions) {
-                least = lesser(least, period);
-            }
-        }
-    }
-    least
-}
-
-/// The sentence for a job that is left no time.
-fn nothing_left(cost: u64, period: u64, stolen: u64) -> Message<'static> {
-    let (cost, period) = (Number(cost), Number(period));
-    if stolen == 0 {
-        return message_of(AS_LONG_AS_IT_COMES, cost, period);
-    }
-    let stolen = Number(stolen);
-    (NOTHING_LEFT, [cost, period, stolen, NONE, NONE])
-}
-
-/// The warning about a job, if there is one; this percentage is always stolen.
-fn job_warning(scenario: &Scenario, job: &TimedJob, stolen: u64) -> Option<Message<'static>> {
-    if !is_begun(scenario, job.at()) {
-        return Some(plain(NOT_BEGUN));
-    }
-    let period = period_at(scenario, job.at())?;
+    let period = here().filter_map(|one| one.1).min()?;
     let cost = u64::from(job.cost().from);
     let left = period.saturating_mul(100_u64.saturating_sub(stolen));
-    if cost.saturating_mul(100) >= left {
-        Some(nothing_left(cost, period, stolen))
-    } else {
-        None
+    if cost.saturating_mul(100) < left {
+        return None;
     }
+    let (cost, period) = (Number(cost), Number(period));
+    if stolen == 0 {
+        let text = "it costs {} of each {} centiseconds: nothing is left";
+        return Some(message_of(text, cost, period));
+    }
+    let text =
+        "it costs {} of each {} centiseconds, of which {} percent are stolen: nothing is left";
+    Some((text, [cost, period, Number(stolen), NONE, NONE]))
 }
 
 /// The first centisecond after all those of a scenario in which a repeating row of stolen time
@@ -173,100 +128,93 @@ fn hides(row: &Stolen, again: &Stolen, lasts: u32) -> bool {
     is_repeated && row.from <= again.from && end_of_repeats(again, lasts) <= row.to
 }
 
-/// The warning about a row of stolen time, if there is one; rows are counted from 0.
-fn row_warning(timing: &Timing, number: usize, row: &Stolen) -> Option<Message<'static>> {
-    let mut earlier = timing.stolen().iter().take(number);
-    if row.every == 0 && row.until < LAST_TIME {
-        Some(plain(NOT_AGAIN))
+/// The warning about a row of stolen time, if there is one, by the rows above it.
+fn row_message(timing: &Timing, above: &[Stolen], row: &Stolen) -> Option<Message<'static>> {
+    let text = if row.every == 0 && row.until < LAST_TIME {
+        NOT_AGAIN
     } else if row.every != 0 && row.until < row.from {
-        Some(plain(NEVER_STOLEN))
-    } else if earlier.any(|other| hides(other, row, timing.lasts())) {
-        Some(plain(HIDDEN))
+        "until is before from, so it never comes"
+    } else if above.iter().any(|other| hides(other, row, timing.lasts())) {
+        "an earlier row always holds when this one would, so it has no effect"
     } else {
-        None
-    }
+        return None;
+    };
+    Some(plain(text))
 }
 
 /// The warning about an event, if there is one.
-fn event_warning(timing: &Timing, event: &TimedEvent) -> Option<Message<'static>> {
+fn event_message(timing: &Timing, event: &TimedEvent) -> Option<Message<'static>> {
     if event.first() > timing.lasts() {
-        return Some(plain(LATE));
+        return Some(plain("it comes after the end"));
     }
     let last = event.last()?;
     if event.every().is_none() {
         Some(plain(NOT_AGAIN))
     } else if last < event.first() {
-        Some(plain(NEVER))
+        Some(plain("until is before at, so it never comes"))
     } else {
         None
     }
 }
 
-/// Whether there is a name, and an earlier row has it.
-fn is_twin<'a>(names: &mut BTreeSet<&'a str>, name: Option<&'a str>) -> Result<bool, AllocError> {
-    match name {
-        None => Ok(false),
-        Some(name) => Ok(!names.insert(name)?),
-    }
-}
-
-/// Notes the warnings about the rows of stolen time of a scenario.
-fn note_rows(found: &mut WarningList, timing: &Timing) {
-    for (k, row) in timing.stolen().iter().enumerate() {
-        if let Some(warning) = row_warning(timing, k, row) {
-            found.note(row_at(STEAL, k), Warning::repeatable(warning));
-        }
-    }
-}
-
-/// Notes the warnings about the jobs of a scenario.
-fn note_jobs(
-    alloc: Global,
-    found: &mut WarningList,
-    scenario: &Scenario,
-) -> Result<(), AllocError> {
-    let stolen = stolen_always(scenario.timing());
-    let mut names = BTreeSet::new(alloc);
-    for (k, job) in scenario.timing().jobs().iter().enumerate() {
-        let place = row_at(JOBS, k);
-        if is_twin(&mut names, job.name())? {
-            found.note(
-                place,
-                Warning::repeatable(message_of(TWIN, Text("job"), NONE)),
-            );
-        }
-        if let Some(warning) = job_warning(scenario, job, stolen) {
-            found.note(place, Warning::repeatable(warning));
-        }
-    }
-    Ok(())
-}
-
-/// Notes the warnings about the events of a scenario.
-fn note_events(alloc: Global, found: &mut WarningList, timing: &Timing) -> Result<(), AllocError> {
-    let mut names = BTreeSet::new(alloc);
-    for (k, event) in timing.all_events().iter().enumerate() {
-        let place = row_at(EVENTS, k);
-        if is_twin(&mut names, event.name())? {
-            found.note(
-                place,
-                Warning::repeatable(message_of(TWIN, Text("event"), NONE)),
-            );
-        }
-        if let Some(warning) = event_warning(timing, event) {
-            found.note(place, Warning::repeatable(warning));
-        }
-    }
-    Ok(())
+/// The warning that an earlier row of this kind has the same name, if that is so.
+fn twin_message<'a>(
+    names: &mut BTreeSet<&'a str>,
+    name: Option<&'a str>,
+    kind: &'static str,
+) -> Result<Option<Message<'static>>, AllocError> {
+    let Some(name) = name else {
+        return Ok(None);
+    };
+    let is_new = names.insert(name)?;
+    let message = message_of("an earlier {} has the same name", Text(kind), NONE);
+    Ok((!is_new).then_some(message))
 }
 
 /// Notes the warnings about the stolen time, jobs and events of a scenario.
 pub(crate) fn note_timing(
     alloc: Global,
-    found: &mut WarningList,
+    found: &mut Warnings,
     scenario: &Scenario,
 ) -> Result<(), AllocError> {
-    note_rows(found, scenario.timing());
-    note_jobs(alloc, found, scenario)?;
-    note_events(alloc, found, scenario.timing())
+    let timing = scenario.timing();
+    let rows = timing.stolen();
+    for (k, row) in rows.iter().enumerate() {
+        let message = row_message(timing, rows.get(..k).unwrap_or(&[]), row);
+        note(
+            found,
+            Location::Table(STEAL, (k as u64).saturating_add(1)),
+            message,
+            None,
+        );
+    }
+    let (beginnings, stolen) = (beginnings_of(alloc, scenario)?, stolen_always(timing));
+    let mut names = BTreeSet::new(alloc);
+    for (number, job) in (1u64..).zip(timing.jobs()) {
+        let place = Location::Table(JOBS, number);
+        note(
+            found,
+            place,
+            twin_message(&mut names, job.name(), "job")?,
+            None,
+        );
+        note(
+            found,
+            place,
+            job_message(job, beginnings.as_slice(), stolen),
+            None,
+        );
+    }
+    let mut names = BTreeSet::new(alloc);
+    for (number, event) in (1u64..).zip(timing.all_events()) {
+        let place = Location::Table(EVENTS, number);
+        note(
+            found,
+            place,
+            twin_message(&mut names, event.name(), "event")?,
+            None,
+        );
+        note(found, place, event_message(timing, event), None);
+    }
+    Ok(())
 }

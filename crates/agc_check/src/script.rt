@@ -4,14 +4,10 @@ ghost use Rattle.agc_text.specs.Script.{IsFirstRefused, lines_of};
 ghost use Rattle.agc_check.specs.Scripts.{AreLineFindings};
 
 use crate::line::{LineFault, script_fault};
-use crate::messages::{NamedText, front_of, put_message};
-use agc_text::Field::Number;
+use crate::messages::{MOST_TOLD, NamedText, put_message, put_more, put_quoted, put_where};
 use agc_text::{Buffer, ScriptFault, parse_line, read_script};
 use std::alloc::{AllocError, Global};
 use std::marker::Model;
-
-/// The most findings that are reported.
-pub(crate) const MOST_TOLD: usize = 20;
 
 /// A line that is no request: its number, from 1, its text, and its fault. Contracts see the
 /// number.
@@ -41,39 +37,31 @@ fn finding_of<'a>(line: u64, text: &'a str) -> LineFinding<'a>
     }
 }
 
-/// The lines that are no requests after the first such line, one less than are reported.
-fn wrong_lines_after<'a>(
-    alloc: Global,
-    text: &'a str,
-    count: u64,
-) -> Result<Vec<LineFinding<'a>>, AllocError> {
-    let mut findings = Vec::new(alloc);
-    for (number, line) in (1u64..).zip(text.split_terminator('\n')) {
-        if findings.len() + 1 >= MOST_TOLD {
-            break;
-        }
-        if number > count && parse_line(line).is_none() {
-            findings.push(finding_of(number, line))?;
-        }
-    }
-    Ok(findings)
+/// Whether a line comes after the one of this number, and is no request.
+fn is_wrong_after((number, line): &(u64, &str), last: u64) -> bool {
+    *number > last && parse_line(line).is_none()
 }
 
 /// The line of this number, which is no request, and further lines that are none.
 fn findings_from<'a>(
     alloc: Global,
     text: &'a str,
-    number: u64,
+    first: u64,
 ) -> Result<Vec<LineFinding<'a>>, AllocError>
     ensures { IfOk result (λ v. (lines : List (List ℕ))
-        → IsFirstRefused lines number → AreLineFindings lines v.items) }
+        → IsFirstRefused lines first → AreLineFindings lines v.items) }
 {
     let line = text
         .split('\n')
-        .nth((number as usize).saturating_sub(1))
+        .nth((first as usize).saturating_sub(1))
         .unwrap_or("");
-    let mut findings = wrong_lines_after(alloc, text, number)?;
-    findings.insert(0, finding_of(number, line))?;
+    let mut findings: Vec<LineFinding<'a>> = (1u64..)
+        .zip(text.split_terminator('\n'))
+        .filter(|line| is_wrong_after(line, first))
+        .take(MOST_TOLD - 1)
+        .map(|(number, line)| finding_of(number, line))
+        .collect(alloc)?;
+    findings.insert(0, finding_of(first, line))?;
     Ok(findings)
 }
 
@@ -95,25 +83,10 @@ pub fn script_findings<'a>(alloc: Global, text: &'a str) -> Result<Vec<LineFindi
 
 /// Adds the sentence for a line of a script.
 fn put_finding(out: &mut Buffer, before_line: &str, finding: &LineFinding<'_>) {
-    out.text(before_line);
-    let (front, dots) = front_of(finding.text);
-    out.put("{}: \"{}{}\": ", &[Number(finding.line), front, dots]);
+    put_where(out, before_line, finding.line, "");
+    put_quoted(out, finding.text);
     put_message(out, finding.fault.message_of());
     out.text("\n");
-}
-
-/// How many lines of a text after the one of this number are no requests.
-fn wrong_lines_behind(text: &str, last: u64) -> usize {
-    let numbered = (1u64..).zip(text.split_terminator('\n'));
-    let is_wrong = |line: &(u64, &str)| line.0 > last && parse_line(line.1).is_none();
-    numbered.filter(is_wrong).count()
-}
-
-/// Adds how many more findings there are, if there are any.
-pub(crate) fn put_more(out: &mut Buffer, count: usize) {
-    if count > 0 {
-        out.put("and {} more\n", &[Number(count as u64)]);
-    }
 }
 
 /// Adds a line for each finding of a text, and one that counts the others; for a bench, which is no
@@ -127,6 +100,12 @@ pub fn put_script_messages(out: &mut Buffer, script: NamedText<'_>, findings: &[
         put_finding(out, script.before_line, finding);
     }
     if let Some(last) = findings.get(MOST_TOLD - 1) {
-        put_more(out, wrong_lines_behind(script.text, last.line));
+        let numbered = (1u64..).zip(script.text.split_terminator('\n'));
+        put_more(
+            out,
+            numbered
+                .filter(|line| is_wrong_after(line, last.line))
+                .count(),
+        );
     }
 }

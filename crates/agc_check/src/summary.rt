@@ -1,12 +1,10 @@
 //! The lines of warnings, and the summary of a run in one line.
-use crate::bench::put_where;
+use crate::bench::location_message;
 use crate::finding::line_at;
-use crate::locate::places_in;
-use crate::messages::{NONE, NamedText, put_message};
+use crate::locate::{KeyPath, spots_of, way_to};
+use crate::messages::{NONE, NamedText, put_message, put_where};
 use crate::run_counts::{RunCounts, run_requests, run_subject};
-use crate::warning::{LOG_FULL, LocatedWarning};
-use crate::warnings::warnings_of;
-use agc_document::Location;
+use crate::warnings::{LOG_FULL, Warning, warnings_of};
 use agc_plan::Request;
 use agc_run::Subject;
 use agc_text::Field::{Number, Text};
@@ -22,17 +20,18 @@ fn put_warnings(
     alloc: Global,
     out: &mut Buffer,
     document: NamedText<'_>,
-    warnings: &[LocatedWarning],
+    warnings: &[Warning],
 ) -> Result<(), AllocError> {
-    let mut places: Vec<Location> = Vec::new(alloc);
-    for one in warnings {
-        places.push(one.place)?;
-    }
-    let found = places_in(alloc, document.text, places.as_slice())?;
-    for (one, at) in warnings.iter().zip(found.as_slice()) {
-        out.text(document.before_line);
-        put_where(out, line_at(document.text, *at), "warning: ", one.place);
-        put_message(out, one.warning);
+    let ways: Vec<KeyPath<'_>> = warnings
+        .iter()
+        .map(|one| way_to(one.place, None))
+        .collect(alloc)?;
+    let spots = spots_of(alloc, document.text, ways.as_slice())?;
+    for (one, spot) in warnings.iter().zip(spots.as_slice()) {
+        let line = line_at(document.text, spot.at);
+        put_where(out, document.before_line, line, "warning: ");
+        put_message(out, location_message(one.place));
+        put_message(out, one.message);
         out.text("\n");
     }
     Ok(())
@@ -47,24 +46,6 @@ fn amount(number: u64) -> (Field<'static>, Field<'static>) {
     }
 }
 
-/// Adds how many alarms there were, and which.
-fn put_alarms(out: &mut Buffer, alarms: &[u64; 3]) {
-    let all = alarms
-        .iter()
-        .fold(0_u64, |sum, count| sum.saturating_add(*count));
-    let (number, end) = amount(all);
-    out.put(", {} alarm{}", &[number, end]);
-    let mut is_first = true;
-    for (code, count) in ["1201", "1202", "1203"].iter().zip(alarms.iter()) {
-        if *count > 0 {
-            let before = if is_first { " (" } else { ", " };
-            out.put("{}{}: {}", &[Text(before), Text(code), Number(*count)]);
-            is_first = false;
-        }
-    }
-    out.text(if all == 0 { "\n" } else { ")\n" });
-}
-
 /// Adds how many requests were asked, how many tasks fired, and how many alarms of each code came;
 /// and whether the run was cut short.
 fn put_summary(out: &mut Buffer, ran: &RunCounts) {
@@ -73,7 +54,21 @@ fn put_summary(out: &mut Buffer, ran: &RunCounts) {
     let (tasks, of_tasks) = amount(ran.fired);
     let fields = [first, requests, of_requests, tasks, of_tasks];
     out.put("ok: {}{} request{}, {} task{} fired", &fields);
-    put_alarms(out, &ran.alarms);
+    let all = ran
+        .alarms
+        .iter()
+        .fold(0_u64, |sum, count| sum.saturating_add(*count));
+    let (alarms, of_alarms) = amount(all);
+    out.put(", {} alarm{}", &[alarms, of_alarms]);
+    let mut is_first = true;
+    for (code, count) in ["1201", "1202", "1203"].iter().zip(ran.alarms.iter()) {
+        if *count > 0 {
+            let before = Text(if is_first { " (" } else { ", " });
+            out.put("{}{}: {}", &[before, Text(code), Number(*count)]);
+            is_first = false;
+        }
+    }
+    out.text(if all == 0 { "\n" } else { ")\n" });
 }
 
 /// Adds the report on a document that is a bench or a scenario: the warnings, and the summary of
@@ -109,11 +104,8 @@ pub fn put_script_summary(
 ) -> Result<(), AllocError> {
     let ran = run_requests(alloc, requests)?.1;
     if let Some(first) = ran.log_full {
-        let first = Number(first);
-        out.text(before_line);
-        out.add(first);
-        out.text(": warning: ");
-        out.put(LOG_FULL, &[first, Number(SCRIPT_LIMIT)]);
+        put_where(out, before_line, first, "warning: ");
+        out.put(LOG_FULL, &[Number(first), Number(SCRIPT_LIMIT)]);
         out.text("\n");
     }
     put_summary(out, &ran);

@@ -3,8 +3,8 @@ use crate::documents::looked_at;
 use crate::program::Console;
 use crate::stops::Stop;
 use agc_check::{
-    Document, NamedText, NoDocument, put_bench_messages, put_report, put_script_messages,
-    put_script_summary, script_findings,
+    Document, NamedText, put_bench_messages, put_report, put_script_messages, put_script_summary,
+    script_findings,
 };
 use agc_program::ProgramFault;
 use agc_text::{Buffer, read_script};
@@ -37,10 +37,9 @@ fn put_input_report(
     out: &mut Buffer,
     input: NamedText<'_>,
 ) -> Result<bool, AllocError> {
-    match Document::parse(rt.alloc(), input.text) {
+    match Document::parse(rt.alloc(), input.text)? {
         Ok(document) => put_document_report(rt, out, input, &document),
-        Err(NoDocument::NoMemory) => Err(AllocError),
-        Err(NoDocument::NotToml(found)) => {
+        Err(found) => {
             put_bench_messages(out, input.before_line, &found);
             Ok(false)
         }

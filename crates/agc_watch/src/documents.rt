@@ -1,8 +1,8 @@
 //! The document that a text is, or that a script becomes; if it is none, its findings.
 use crate::stops::{Stop, add, stop_with};
 use agc_check::{
-    CheckedExplored, CheckedScenario, Document, ExploredBench, Findings, NamedText, NoDocument,
-    explored_findings, put_bench_messages, put_script_messages, scenario_findings, script_findings,
+    Document, ExploredBench, Findings, NamedText, explored_findings, put_bench_messages,
+    put_script_messages, scenario_findings, script_findings,
 };
 use agc_document::Bench;
 use agc_program::ProgramFault;
@@ -88,10 +88,9 @@ fn refusal(alloc: Global, input: NamedText<'_>, found: &Findings) -> Stop {
 
 /// The document that an input is.
 fn parse_document<'a>(alloc: Global, input: NamedText<'a>) -> Result<Document<'a>, Stop> {
-    match Document::parse(alloc, input.text) {
+    match Document::parse(alloc, input.text)? {
         Ok(document) => Ok(document),
-        Err(NoDocument::NoMemory) => Err(Stop::ProgramFault(ProgramFault::NoMemory)),
-        Err(NoDocument::NotToml(found)) => Err(refusal(alloc, input, &found)),
+        Err(found) => Err(refusal(alloc, input, &found)),
     }
 }
 
@@ -102,11 +101,9 @@ pub(crate) fn looked_at(
     document: &Document<'_>,
 ) -> Result<Result<RunnableDocument, Findings>, AllocError> {
     if is_scenario(document.table()) {
-        let CheckedScenario { scenario, findings } = scenario_findings(alloc, document)?;
-        Ok(scenario.map(RunnableDocument::Scenario).ok_or(findings))
+        Ok(scenario_findings(alloc, document)?.map(RunnableDocument::Scenario))
     } else {
-        let CheckedExplored { explored, findings } = explored_findings(alloc, document)?;
-        Ok(explored.map(RunnableDocument::Bench).ok_or(findings))
+        Ok(explored_findings(alloc, document)?.map(RunnableDocument::Bench))
     }
 }
 
@@ -131,10 +128,9 @@ pub(crate) fn explored_in(alloc: Global, input: NamedText<'_>) -> Result<Explore
     if is_scenario(document.table()) {
         return Err(stop_with(alloc, 1, &[input.before_line, WANTS_BENCH]));
     }
-    let CheckedExplored { explored, findings } = explored_findings(alloc, &document)?;
-    match explored {
-        Some(explored) => Ok(explored),
-        None => Err(refusal(alloc, input, &findings)),
+    match explored_findings(alloc, &document)? {
+        Ok(explored) => Ok(explored),
+        Err(found) => Err(refusal(alloc, input, &found)),
     }
 }
 
@@ -152,8 +148,7 @@ fn no_scenario(
     document: &Document<'_>,
     found: &Findings,
 ) -> Result<Stop, AllocError> {
-    let checked = explored_findings(alloc, document)?;
-    if checked.explored.is_some() {
+    if explored_findings(alloc, document)?.is_ok() {
         Ok(stop_with(alloc, 1, &[input.before_line, WANTS_SCENARIO]))
     } else {
         Ok(refusal(alloc, input, found))
@@ -163,9 +158,8 @@ fn no_scenario(
 /// The scenario that an input is.
 pub(crate) fn scenario_in(alloc: Global, input: NamedText<'_>) -> Result<Scenario, Stop> {
     let document = parse_document(alloc, input)?;
-    let CheckedScenario { scenario, findings } = scenario_findings(alloc, &document)?;
-    match scenario {
-        Some(scenario) => Ok(scenario),
-        None => Err(no_scenario(alloc, input, &document, &findings)?),
+    match scenario_findings(alloc, &document)? {
+        Ok(scenario) => Ok(scenario),
+        Err(found) => Err(no_scenario(alloc, input, &document, &found)?),
     }
 }
