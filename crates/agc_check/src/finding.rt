@@ -81,7 +81,7 @@ pub(crate) fn line_at(document: &str, at: usize) -> u64
     line_ends(&bytes[..at.min(bytes.len())]) + 1
 }
 
-/// What is wrong at a place, and the text to quote.
+/// An error at a place, and the text to quote.
 #[derive(Clone, Copy)]
 pub(crate) struct Remark<'a> {
     pub(crate) place: Location,
@@ -180,7 +180,7 @@ pub(crate) trait Note<'a>: Copy {
     /// The contents of the finding that reports it.
     ghost says: { Self → Message };
 
-    /// What it says.
+    /// The error and its place.
     fn remark(&self) -> Remark<'a>
         ensures fault { refusal_of result.wrong ≡ fault }
         ensures says { say result.place result.wrong result.text.now ≡ says self.now };

@@ -152,9 +152,9 @@ pub(crate) fn findings_in(
 }
 
 /// The scenario that a document is, or why it is none: the same that `read_scenario` says of it.
-/// What is found first has the fault that `read_scenario` returns; what is wrong with keys comes
-/// before what is wrong with texts, each in the order of the document, and of either at most
-/// twenty, and the number of others.
+/// The first finding has the fault that `read_scenario` returns; those of keys come before those of
+/// texts, each in the order of the document, and of either at most twenty, and the number of
+/// others.
 ///
 /// # Errors
 ///

@@ -87,7 +87,7 @@ fn stolen_always(timing: &Timing) -> u64 {
     u64::from(least)
 }
 
-/// The warning about a job, if there is one; jobs begin there, and this percentage is always stolen.
+/// The warning about a job, if there is one, by where jobs begin; this percentage is always stolen.
 fn job_message(
     job: &TimedJob,
     beginnings: &[(Address, Option<u64>)],
@@ -171,6 +171,19 @@ fn twin_message<'a>(
     Ok((!is_new).then_some(message))
 }
 
+/// Notes the warnings about the rows of stolen time of a scenario.
+fn note_rows(found: &mut Warnings, timing: &Timing) {
+    let rows = timing.stolen();
+    for (k, row) in rows.iter().enumerate() {
+        let place = Location::Table(STEAL, (k as u64).saturating_add(1));
+        note(
+            found,
+            place,
+            row_message(timing, rows.get(..k).unwrap_or(&[]), row),
+        );
+    }
+}
+
 /// Notes the warnings about the stolen time, jobs and events of a scenario.
 pub(crate) fn note_timing(
     alloc: Global,
@@ -178,31 +191,16 @@ pub(crate) fn note_timing(
     scenario: &Scenario,
 ) -> Result<(), AllocError> {
     let timing = scenario.timing();
-    let rows = timing.stolen();
-    for (k, row) in rows.iter().enumerate() {
-        let message = row_message(timing, rows.get(..k).unwrap_or(&[]), row);
-        note(
-            found,
-            Location::Table(STEAL, (k as u64).saturating_add(1)),
-            message,
-            None,
-        );
-    }
+    note_rows(found, timing);
     let (beginnings, stolen) = (beginnings_of(alloc, scenario)?, stolen_always(timing));
     let mut names = BTreeSet::new(alloc);
     for (number, job) in (1u64..).zip(timing.jobs()) {
         let place = Location::Table(JOBS, number);
-        note(
-            found,
-            place,
-            twin_message(&mut names, job.name(), "job")?,
-            None,
-        );
+        note(found, place, twin_message(&mut names, job.name(), "job")?);
         note(
             found,
             place,
             job_message(job, beginnings.as_slice(), stolen),
-            None,
         );
     }
     let mut names = BTreeSet::new(alloc);
@@ -212,9 +210,8 @@ pub(crate) fn note_timing(
             found,
             place,
             twin_message(&mut names, event.name(), "event")?,
-            None,
         );
-        note(found, place, event_message(timing, event), None);
+        note(found, place, event_message(timing, event));
     }
     Ok(())
 }

@@ -48,9 +48,9 @@ fn repeatable(place: Location, message: Message<'static>) -> Warning {
 /// The warnings so far.
 pub(crate) type Warnings = Gathered<Warning>;
 
-/// Adds a warning, if there is one; unless it was given before for the same numbers, or there are as
-/// many as there may be.
-pub(crate) fn note(
+/// Adds a warning, if there is one; unless it was given before for the same numbers, or there are
+/// as many as there may be.
+fn note_once(
     found: &mut Warnings,
     place: Location,
     message: Option<Message<'static>>,
@@ -67,6 +67,11 @@ pub(crate) fn note(
             once,
         });
     }
+}
+
+/// Adds a warning that may be given of the same thing again, if there is one.
+pub(crate) fn note(found: &mut Warnings, place: Location, message: Option<Message<'static>>) {
+    note_once(found, place, message, None);
 }
 
 /// The tasks of a bench by their numbers: whether each has a row, and whether anything but its own
@@ -133,26 +138,21 @@ fn note_item(found: &mut Warnings, bench: &Bench, tasks: &Tasks, (place, item): 
             } else {
                 numbers
             };
-            note(found, place, task_message(tasks, numbers), Some(once));
+            note_once(found, place, task_message(tasks, numbers), Some(once));
         }
         Item::Sets(group, phase) => {
             let once = (u16::from(group.get()), u16::from(phase.get()));
-            note(found, place, phase_message(bench, group, phase), Some(once));
+            note_once(found, place, phase_message(bench, group, phase), Some(once));
         }
         Item::Row(task) => {
             let is_alone = !tasks.known.contains(&(false, numbers_of(&task)));
             let message = plain("nothing else lists this task, so it never fires");
-            note(found, place, is_alone.then_some(message), None);
+            note(found, place, is_alone.then_some(message));
         }
         Item::Device(line) => {
             let text = "a pulse asks for nothing, since the action of {} is nothing";
             let message = message_of(text, Text(line_name(line)), NONE);
-            note(
-                found,
-                place,
-                asks_nothing(bench, line).then_some(message),
-                None,
-            );
+            note(found, place, asks_nothing(bench, line).then_some(message));
         }
     }
 }
