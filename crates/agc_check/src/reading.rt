@@ -68,15 +68,15 @@ fn wrong_document<'a>(text: &'a str, error: &'a Error) -> (Remark<'a>, usize)
 {
     let (start, end) = error.span().map_or((0, 0), |span| (span.start, span.end));
     let word = text.get(start..end).unwrap_or("");
-    let (text, wrong) = if !text.contains('=') {
-        ("", Problem::NoKeys)
+    let (text, wrong, at) = if !text.contains('=') {
+        ("", Problem::NoKeys, 0)
     } else if is_octal_five(word) {
-        (word, Problem::NoQuotes)
+        (word, Problem::NoQuotes, start)
     } else {
-        (error.message(), Problem::NotToml)
+        (error.message(), Problem::NotToml, start)
     };
     let place = Location::Whole;
-    (Remark { place, text, wrong }, start)
+    (Remark { place, text, wrong }, at)
 }
 
 /// The finding of a text that is no TOML document.
