@@ -28,11 +28,7 @@ const HARDLY = 2;
 /** How many letters of a name are shown in a cell. */
 const MOST_LETTERS = 24;
 
-/**
- * A number or an address in a cell, and after it the name, if there is one, without blanks.
- * @param {string} number
- * @param {string | undefined} name
- */
+/** A number or an address in a cell, and after it the name, if there is one, without blanks. @param {string} number @param {string | undefined} name */
 function joined(number, name) {
   if (name === undefined) return number;
   return `${number}:${[...name].slice(0, MOST_LETTERS).join("").replaceAll(" ", "_")}`;
@@ -46,7 +42,8 @@ function named(address, name) {
 /** What names a scenario has: those of jobs by their addresses, those of tasks by their rows. */
 export class Names {
   /** @param {import("./bench.js").Bench} bench */
-  constructor({ job, task }) {
+  constructor({ job, task, seconds: length }) {
+    this.isTimed = length !== undefined;
     /** @type {Map<string, string>} */
     this.jobs = new Map();
     /** @type {Map<string, string>} */
@@ -55,6 +52,11 @@ export class Names {
     for (const it of task) {
       if (it.name !== undefined) this.tasks.set(`${it.at} ${it.bank}`, visible(it.name));
     }
+  }
+
+  /** A priority: in a scenario as a decimal; else as a request has it, in octal. @param {number} priority */
+  priority(priority) {
+    return this.isTimed ? String(priority) : octal(priority, 2);
   }
 
   /** What a job at this address is called. @param {number} at */
@@ -103,13 +105,7 @@ export function sinceOf(run, since) {
   return [words, { text: `request ${row}`, row }, time];
 }
 
-/**
- * The action of a task that raised an alarm in a tick.
- * @param {import("./run.js").Run} run
- * @param {Shown} shown
- * @param {Names} names
- * @returns {Piece[][]}
- */
+/** The action of a task that raised an alarm in a tick. @param {import("./run.js").Run} run @param {Shown} shown @param {Names} names @returns {Piece[][]} */
 function raisedBy(run, shown, names) {
   const action = actionOf(run, shown);
   if (action === null) return [];
@@ -130,19 +126,14 @@ function holders(run, { step, scene, jobsSince, tasksSince }, names) {
     if (job === null) return [];
     const area = job.area === 0 ? "" : `, area ${job.area}`;
     const at = job.asleep ? `, asleep at ${names.ofJob(job.at)}` : `, at ${names.ofJob(job.at)}`;
-    const told = `set ${k}: job ${job.number}, priority ${octal(job.priority, 2)}${at}${area}`;
+    const told = `set ${k}: job ${job.number}, priority ${names.priority(job.priority)}${at}${area}`;
     return [told, ...sinceOf(run, jobsSince[k])];
   });
   const isHolder = scene.sets.map((job) => step.number === 0o1202 || (job?.area ?? 0) > 0);
   return lines.filter((it, k) => it.length > 0 && isHolder[k]);
 }
 
-/**
- * How many jobs began and ended in the era that an alarm ends, and whether time was left.
- * @param {import("./run.js").Run} run
- * @param {Shown} shown
- * @returns {Piece[]}
- */
+/** How many jobs began and ended in the era that an alarm ends, and whether time was left. @param {import("./run.js").Run} run @param {Shown} shown @returns {Piece[]} */
 function balance(run, { row, era, begun, ended, step }) {
   if (step === null || step.number === 0o1203) return [];
   const since = era === 0 ? "the beginning" : `the restart of request ${era}`;
@@ -157,7 +148,7 @@ function balance(run, { row, era, begun, ended, step }) {
 function everyone({ sets, tasks }, names) {
   return [
     ...sets.flatMap((job) =>
-      (job === null ? [] : [`job ${job.number}, priority ${octal(job.priority, 2)}, at ${names.ofJob(job.at)}`])),
+      (job === null ? [] : [`job ${job.number}, priority ${names.priority(job.priority)}, at ${names.ofJob(job.at)}`])),
     ...tasks.map((it) => `task ${names.ofTask(it)} in ${seconds(it.left)}`),
   ];
 }
@@ -170,12 +161,7 @@ function beginsAgain(after, names) {
     + (all.length === 0 ? "nothing begins again." : `these begin again: ${all.join("; ")}.`)]];
 }
 
-/**
- * What is there after the restart that a row ended with: each job and task on its own line.
- * @param {Shown} shown
- * @param {Names} names
- * @returns {Account}
- */
+/** What is there after the restart that a row ended with: each job and task on its own line. @param {Shown} shown @param {Names} names @returns {Account} */
 function accountOfRestart({ line, scene }, names) {
   const all = everyone(scene, names);
   const lines = [
@@ -217,14 +203,7 @@ function brokenPairs(power) {
   return lines;
 }
 
-/**
- * The beginning of a run, where its answer is shown.
- * @param {import("./run.js").Run} run
- * @param {Shown} shown
- * @param {Names} names
- * @param {Given} given
- * @returns {Account}
- */
+/** The beginning of a run, where its answer is shown. @param {import("./run.js").Run} run @param {Shown} shown @param {Names} names @param {Given} given @returns {Account} */
 function accountOfBeginning(run, shown, names, { about, count }) {
   const { power } = run.bench;
   const said = about === "" ? [] : [[{ text: about, isProse: true }]];
@@ -365,8 +344,7 @@ export function accountOf(run, shown, names, given = { about: "", count: 0, isHi
   if (shown.step !== null && shown.step.alarm !== 0) return accountOfAlarm(run, shown, names);
   const lines = [...replySentence(run, shown, names), ...firedSentences(shown, names)];
   if (shown.after !== null) lines.push(...beginsAgain(shown.after, names));
-  const quiet = shown.kind === Kind.TICKED ? "A centisecond passes." : "Done.";
-  if (lines.length === 0) lines.push([quiet]);
+  if (lines.length === 0 && shown.kind !== Kind.TICKED) lines.push(["Done."]);
   return { heading: "What happens", lines, isAlarm: false };
 }
 

@@ -9,6 +9,7 @@
 import { scenarioOf } from "./build.js";
 import { countOf, emptyBench, hasBase, readBench, requestsOf, writeBench } from "./bench.js";
 import { fillOn, nextText, passOne, repeatedOf, runOf, runWith, speedOf, step } from "./clock.js";
+import { told as toldOf } from "./examples.js";
 import { documentOfScript, isScript } from "./forgive.js";
 import { firstSentence, questionOf, withoutQuestion } from "./files.js";
 import { branched, exchanged, goingOn, left, stepped, NOTHING_DONE } from "./history.js";
@@ -114,12 +115,12 @@ function begun(s, bench, more) {
     clock: { ...s.clock, isRunning: false, speed: null } };
 }
 
-/** Opens a text: a bench, a scenario, or a script. What isn't one is thrown. @param {State} s @param {string} given @param {string} name @param {any} source */
-function opened(s, given, name, source = NO_SOURCE) {
+/** Opens a text: a bench, a scenario, or a script. What isn't one is thrown. @param {State} s @param {string} given @param {string} name @param {any} source @param {string} [called] */
+function opened(s, given, name, source = NO_SOURCE, called) {
   const text = isScript(given) ? documentOfScript(given) : given;
   const bench = readBench(text);
   const isOwn = source.question === "";
-  const title = isOwn ? firstSentence(text) || name : source.question.split("\n")[0];
+  const title = called ?? (isOwn ? firstSentence(text) || name : source.question.split("\n")[0]);
   return begun(s, bench, { title: visible(bench.title ?? title), source: { ...source, document: text },
     about: isOwn ? visible(questionOf(text)).replaceAll("\n", " ") : "" });
 }
@@ -128,7 +129,7 @@ function opened(s, given, name, source = NO_SOURCE) {
 function openedKept(s, name) {
   const kept = s.kept.find((it) => it.name === name);
   if (kept === undefined) return noted(s, `There is no example or exercise named “${visible(name).slice(0, 60)}”.`);
-  if (kept.kind !== "exercise") return opened(s, kept.text, name, { ...NO_SOURCE, exercise: name });
+  if (kept.kind !== "exercise") return opened(s, kept.text, name, { ...NO_SOURCE, exercise: name }, toldOf(name)?.[0]);
   const source = { ...NO_SOURCE, exercise: name, question: visible(questionOf(kept.text)) };
   const change = opened(s, withoutQuestion(kept.text), name, source);
   return { ...change, hidden: [...s.hidden, change.run.source], predicted: [], tries: 0 };

@@ -24,12 +24,7 @@ export const AS_IT_WAS = "0";
 /** What an address has that can't be read. */
 export class Damaged extends Error {}
 
-/**
- * What was done to a run, up to a row: nothing where it is just what its document asks for.
- * @param {Run} run
- * @param {number} count
- * @returns {Recipe | null}
- */
+/** What was done to a run, up to a row: nothing where it is just what its document asks for. @param {Run} run @param {number} count @returns {Recipe | null} */
 export function recipeOf(run, count) {
   const asked = requestsOf(run.given);
   const first = run.changes[0]?.before ?? run.bench;
@@ -123,12 +118,7 @@ export function readAddress(mark) {
 const CLOCKED = ["steal", "job", "event"];
 const PLANNED = ["sets", "task"];
 
-/**
- * Whether these are some of a bench's own, such as its document might have.
- * @param {any} given
- * @param {string[]} names
- * @param {import("./bench.js").Bench} bench
- */
+/** Whether these are some of a bench's own, such as its document might have. @param {any} given @param {string[]} names @param {import("./bench.js").Bench} bench */
 function areOf(given, names, bench) {
   const isObject = typeof given === "object" && !Array.isArray(given);
   if (!isObject || !Object.keys(given).every((it) => names.includes(it))) return false;
@@ -136,12 +126,7 @@ function areOf(given, names, bench) {
   return true;
 }
 
-/**
- * Whether this is a part of what was done: rows of the document or of the clock, one by somebody
- * else, or other numbers.
- * @param {any} part
- * @param {import("./bench.js").Bench} bench
- */
+/** Whether this is a part of what was done: rows of the document or of the clock, one by somebody else, or other numbers. @param {any} part @param {import("./bench.js").Bench} bench */
 function isPart(part, bench) {
   if (!Array.isArray(part)) return false;
   const [kind, one, who] = part;

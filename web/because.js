@@ -91,10 +91,7 @@ export function needsOf({ cost, got }) {
   return [cost, got].map(short(cost) === short(got) ? seconds : short);
 }
 
-/**
- * What raised an alarm in a tick: the action of a task, as a line; nothing where a request of its own did.
- * @param {import("./run.js").Run} run @param {import("./run.js").Shown} shown
- */
+/** What raised an alarm in a tick: the action of a task, as a line; nothing where a request of its own did. @param {import("./run.js").Run} run @param {import("./run.js").Shown} shown */
 export function actionOf({ bench }, { step }) {
   const last = step?.fired.at(-1);
   if (step === null || last === undefined || step.action === 0) return null;
@@ -126,15 +123,12 @@ export function lateOf(run, { row, scene: { sets }, jobsFrom }, names) {
     .flatMap((it) => (gotBy(run, it, born, row) >= 1 ? [`${names.job(it) ?? octal(it, 5)} has had ${short(Math.round(gotBy(run, it, born, row)))} of computing`] : []));
   const got = Math.round(gotBy(run, at, born, row));
   const [first, own] = [sets[0], sets.find((it, k) => it !== null && jobsFrom[k] === at)].map((it) => it?.priority ?? 0);
-  const order = first <= own ? "" : ` First goes ${names.job(jobsFrom[0]) ?? "what runs"}, by its priority ${octal(first, 2)}: ${name} has ${octal(own, 2)}.`;
+  const order = first <= own ? "" : ` First goes ${names.job(jobsFrom[0]) ?? "what runs"}, by its priority ${names.priority(first)}: ${name} has ${names.priority(own)}.`;
   return { name, at, text: `${name} was asked for at ${seconds(run.ticksAt(born))} and had to end by ${seconds(Math.round(due / 100))}. `
     + `Since then ${[...others, `${name} ${got === 0 ? "none" : short(got)}`].join(", ")}.${order}` };
 }
 
-/**
- * The sentence; nothing where no job comes again and again.
- * @param {import("./run.js").Run} run @param {import("./run.js").Shown} shown @param {import("./account.js").Names} names
- */
+/** The sentence; nothing where no job comes again and again. @param {import("./run.js").Run} run @param {import("./run.js").Shown} shown @param {import("./account.js").Names} names */
 export function becauseOf(run, shown, names) {
   const cause = causeOf(run, shown);
   if (cause === null) return "";

@@ -92,7 +92,7 @@ function makeFields() {
   by("build-fields").addEventListener("keydown", (/** @type {KeyboardEvent} */ event) => {
     if (event.key === "Enter" && event.target instanceof HTMLInputElement) go();
   });
-  const units = (/** @type {string} */ id) => (id === "priority" ? "priority, 1 to 31" : `${FIELDS[id].label}, s`);
+  const units = (/** @type {string} */ id) => (id === "priority" ? "priority, 1 to 31 (octal in the document)" : `${FIELDS[id].label}, s`);
   fill("build-fields", [labelled("job", fields.name), ...Object.keys(FIELDS).map((it) => labelled(units(it), fields[it])),
     make("label", { class: "check" }, fields.hasArea, " with a VAC area"), button("Add", go, { id: "build-add", class: "primary" })]);
 }

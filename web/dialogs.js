@@ -2,6 +2,7 @@
 import { isSaved, openedMark } from "./saving.js";
 import { assign, button, by, fill, make, set, withCode } from "./dom.js";
 import * as files from "./files.js";
+import { TOPICS, told } from "./examples.js";
 import { formOf } from "./forms.js";
 import { help } from "./help.js";
 import { sharedMark } from "./keep.js";
@@ -16,10 +17,9 @@ import { act, differ, isHidden, sceneAfter, state } from "./state.js";
 /** How many letters a link has at most. */
 const MOST_LINK = 8000;
 
-/** A card of a document: its title, its name, and what it says of itself. @param {{ kind: string, name: string, text: string }} kept @param {number} k @param {{ length: number }} all */
+/** A card of a document: its title, and what it shows. @param {{ kind: string, name: string, text: string }} kept @param {number} k @param {{ length: number }} all */
 function cardOf({ kind, name, text }, k, { length }) {
-  const title = kind === "exercise" ? files.questionOf(text).split("\n")[0] : TITLES[name] ?? /^title = "(.*)"$/m.exec(text)?.[1] ?? name;
-  const about = kind === "exercise" ? "" : files.firstSentence(text);
+  const [title, about] = kind === "exercise" ? [files.questionOf(text).split("\n")[0], ""] : told(name) ?? [name, files.firstSentence(text)];
   // (a picture of an exercise would answer it)
   const pictures = kind === "exercise" ? [] : [make("canvas", { class: "picture", "aria-hidden": "true" })];
   for (const canvas of pictures) drawCard({ name, text, canvas });
@@ -27,24 +27,19 @@ function cardOf({ kind, name, text }, k, { length }) {
     ...(kind === "exercise" ? [make("span", { class: "name" }, `${k + 1} of ${length}`)] : []), make("span", { class: "about" }, ...withCode(about)));
 }
 
-/** What the examples are called. @type {Record<string, string>} */
-const TITLES = {
-  "landing-1202": "A landing, and alarm 1202", landing: "A landing: when does the first alarm come?", "apollo-11": "Apollo 11: five alarms",
-  "comes-back-after-an-alarm": "What survives an alarm", "jobs-faster-than-they-end": "Jobs come faster than they end",
-  "jobs-faster-with-eight-sets": "The same, with an eighth core set", "no-vac-area": "A key pressed too often: alarm 1201",
-  "power-up-with-a-broken-pair": "Power comes back, and a pair of words is broken", race: "Two workers race: alarm or not?",
-  "race-order": "The order in which the race is lost", "sleepers-take-core-sets": "Sleepers take core sets",
-  "task-lists-itself": "A task that lists itself again", "waitlist-full": "The Waitlist is full: alarm 1203",
-};
-
 /** @type {Record<string, (now: State) => Dialog>} */
 const DIALOGS = {
   help: () => ({ heading: "Help", children: [make("p", {}, button("Show the tour again", () => act("tour-again"), { id: "tour-again" })), ...help()] }),
   examples({ kept }) {
-    const listOf = (/** @type {string} */ kind) => make("ul", { class: "choices", "aria-label": `${kind}s` }, ...kept.filter((it) => it.kind === kind).map(cardOf));
+    const listOf = (/** @type {string} */ topic, /** @type {typeof kept} */ all) => [make("h3", {}, topic), make("ul", { class: "choices", "aria-label": topic }, ...all.map(cardOf))];
+    const [examples, exercises] = ["example", "exercise"].map((kind) => kept.filter((it) => it.kind === kind));
+    // (an example of no topic comes with the last one)
+    const topics = TOPICS.flatMap(([topic, all], k) => listOf(topic, [...Object.keys(all).flatMap((name) => examples.find((it) => it.name === name) ?? []),
+      ...(k + 1 < TOPICS.length ? [] : examples.filter((it) => told(it.name) === undefined))]));
     const own = make("p", { class: "own" }, button("Build your own", () => act("new"), { id: "build-own", class: "primary" }),
-      "Say how often each job comes, how much it needs, how urgent it is, and by when it has to end.");
-    return { heading: "Examples", children: [own, listOf("example"), make("h3", {}, "Exercises"), listOf("exercise")],
+      "Say how often each job comes, how much it needs, how urgent it is, and by when it has to end.",
+      button("To the exercises", () => by("dialog-body").querySelector("h3:last-of-type").scrollIntoView(), { id: "to-exercises", class: "quiet" }));
+    return { heading: "Examples", children: [own, ...topics, ...listOf("Exercises", exercises)],
       focus: () => by("dialog-body").querySelector("button")?.focus() };
   },
   fault: ({ dialog }) => ({ heading: "It isn't opened", children: [make("p", { class: "wrong", id: "fault" }, dialog?.given)] }),

@@ -5,22 +5,14 @@
 import { MOST_BYTES, emptyBench, writeBench } from "./bench.js";
 import { make } from "./dom.js";
 
-/**
- * The text of a document within the page: `\l` stands for what would begin markup, and a backslash
- * at a line's end for a line that goes on.
- * @param {string} data
- */
+/** The text of a document within the page: `\l` stands for what would begin markup, and a backslash at a line's end for a line that goes on. @param {string} data */
 export function textOfData(data) {
   /** @type {Record<string, string>} */
   const signs = { "\\l": "<", "\\\\": "\\", "\\\n": "" };
   return data.replace(/\\[l\\\n]/g, (it) => signs[it]);
 }
 
-/**
- * The texts that the page carries: each begins with a line `@ KIND NAME`, followed by its data.
- * @param {string} data
- * @returns {{ kind: string, name: string, text: string }[]}
- */
+/** The texts that the page carries: each begins with a line `@ KIND NAME`, followed by its data. @param {string} data @returns {{ kind: string, name: string, text: string }[]} */
 export function keptTexts(data) {
   return data.split(/^@ /m).slice(1).map((it) => {
     const end = it.indexOf("\n");

@@ -40,11 +40,7 @@ function fieldOf({ name, label, sentence }) {
   });
 }
 
-/**
- * The form of a request.
- * @param {string} word @param {import("./bench.js").Bench} bench @param {import("../libagc/js/machine.js").Scene} scene
- * @param {(line: string) => void} ask
- */
+/** The form of a request. @param {string} word @param {import("./bench.js").Bench} bench @param {import("../libagc/js/machine.js").Scene} scene @param {(line: string) => void} ask */
 export function formOf(word, bench, scene, ask) {
   const parts = FORMS.get(word) ?? [];
   const fields = parts.map(fieldOf);

@@ -56,6 +56,7 @@ export function head(now, before) {
   const isAlarm = !shown.isAfter && shown.reply.includes("alarm");
   set(by("state"), headline(now, shown));
   assign(by("state"), { className: isAlarm ? "alarm" : "" });
+  by("sentence").classList.toggle("said", textOf(now, "said") !== "");
   set(by("sentence"), textOf(now, "said") || sentenceOf(shown, count, namesOf(run), missionOf(run.about)));
   set(by("note"), textOf(now, "note"));
   drawDisplay(shown);

@@ -43,10 +43,7 @@ export function branched(history, now, why) {
   return bounded({ ...history, named, branches: [...history.branches, { ...viewOf(now), name }] });
 }
 
-/**
- * One step back or forward: what is shown then, and the history; nothing where there is no step.
- * @param {History} history @param {View} now @param {"done" | "undone"} from
- */
+/** One step back or forward: what is shown then, and the history; nothing where there is no step. @param {History} history @param {View} now @param {"done" | "undone"} from */
 export function stepped(history, now, from) {
   const to = from === "done" ? "undone" : "done";
   const view = history[from].at(-1);

@@ -27,8 +27,8 @@ function lineOf(row, name) {
   const costs = cost === null ? "–" : typeof cost === "number" ? short(cost) : `${short(cost.from)} to ${short(cost.to)}`;
   const late = deadline === null ? "–" : missed === 0 ? "0"
     : button(String(missed), () => act("late", missedRow), { title: "To the first one that is late" });
-  return make("tr", { title: told }, make("td", {}, ...name), ...[priority < 8 ? octal(priority, 2) : `${octal(priority, 2)} (${priority})`, period === null ? "–" : short(period), costs, deadline === null ? "–" : short(deadline),
-    part === null ? "–" : percent(part), percent(share), ...[least, mean, most].map((it) => (ended === 0 ? "–" : took(it))), late].map((it) => make("td", {}, it)));
+  return make("tr", { title: told }, make("td", {}, ...name), ...[late, String(priority), period === null ? "–" : short(period), costs, deadline === null ? "–" : short(deadline),
+    part === null ? "–" : percent(part), percent(share), ...[least, mean, most].map((it) => (ended === 0 ? "–" : took(it)))].map((it) => make("td", {}, it)));
 }
 
 /** What the table's lines and its head say, up to the row that is shown; at the beginning, of all of the run. @param {State} now */
@@ -41,13 +41,19 @@ function tableOf({ run, count: all, at }) {
   return { parts, stolen, all: parts.reduce((sum, it) => sum + it.part, stolen), time: at > 0 ? `up to ${seconds(run.ticksAt(count))}` : `in ${run.bench.seconds} s` };
 }
 
+/** Which part of the time all jobs of a run ask for, with what is stolen, in percent. @param {import("./run.js").Run} run */
+export function loadOf(run) {
+  const stolen = budgetOf(run, run.count, { from: 0, to: run.ticksAt(run.count) })?.stolen ?? 0;
+  return Math.round(100 * jobsOf(run, run.count).reduce((sum, it) => sum + (utilization(it) ?? 0), stolen / 100));
+}
+
 /** The table's lines. @param {State} now */
 export function linesOf(now) {
   const { parts, stolen, all } = tableOf(now);
   const colours = coloursOf(now.run);
   return [
     ...parts.map(({ row, name }) => lineOf(row, [make("span", { class: `swatch j${1 + colours.of(row.at)}` }), name])),
-    make("tr", {}, make("td", { colSpan: 5 }, stolen > 0 ? `and stolen ${percent(stolen)}` : "all"), make("td", {}, percent(all)), make("td", { colSpan: 5 })),
+    make("tr", {}, make("td", { colSpan: 6 }, stolen > 0 ? `and stolen ${percent(stolen)}` : "all"), make("td", {}, percent(all)), make("td", { colSpan: 4 })),
   ];
 }
 

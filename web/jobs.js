@@ -28,12 +28,7 @@ export function periodOf({ task, event }, at) {
   return all.length === 0 ? null : Math.min(...all);
 }
 
-/**
- * The run's jobs by the addresses at which they began, in the order in which the first of each did, up to a row.
- * @param {Run} run
- * @param {number} count
- * @returns {JobRow[]}
- */
+/** The run's jobs by the addresses at which they began, in the order in which the first of each did, up to a row. @param {Run} run @param {number} count @returns {JobRow[]} */
 export function jobsOf(run, count) {
   const isTimed = run.bench.seconds !== undefined;
   const momentOf = (/** @type {number} */ row) => (isTimed ? run.momentAt(row) : 100 * run.ticksAt(row));
@@ -64,11 +59,7 @@ export function jobsOf(run, count) {
   return [...rows.values()].map((row) => summedUp(row, computed.get(row.at) ?? 0, now));
 }
 
-/**
- * The jobs that are alive at a row and past their deadlines, in the order in which they began.
- * @param {Run} run
- * @param {number} row
- */
+/** The jobs that are alive at a row and past their deadlines, in the order in which they began. @param {Run} run @param {number} row */
 export function lateAt(run, row) {
   const { lanes: { jobs }, bench } = run;
   const momentOf = (/** @type {number} */ it) => (bench.seconds === undefined ? 100 * run.ticksAt(it) : run.momentAt(it));
@@ -82,12 +73,7 @@ export function lateAt(run, row) {
   return late;
 }
 
-/**
- * What the jobs of each address have computed up to a row, and in what is left of a run that is over.
- * @param {Run} run
- * @param {number} count
- * @param {boolean} isOver
- */
+/** What the jobs of each address have computed up to a row, and in what is left of a run that is over. @param {Run} run @param {number} count @param {boolean} isOver */
 function computedOf(run, count, isOver) {
   /** @type {Map<number, number>} */
   const computed = new Map();

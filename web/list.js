@@ -15,12 +15,7 @@ const LINES = 15;
 const AROUND = 7;
 const CELLS = 9;
 
-/**
- * The core sets of a scene: number, name and priority. A job that is asleep is in brackets, and the
- * one that NEWJOB names has a > before it.
- * @param {Scene} scene
- * @param {Names} names
- */
+/** The core sets of a scene: number, name and priority. A job that is asleep is in brackets, and the one that NEWJOB names has a > before it. @param {Scene} scene @param {Names} names */
 function setsCell(scene, names) {
   return scene.sets.map((job) => {
     if (job === null) return ".";

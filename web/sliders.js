@@ -33,11 +33,7 @@ const WHAT = {
   sets: "How many jobs can be alive at once",
 };
 
-/**
- * How often tasks come that list themselves again, and events that have a period.
- * @param {import("./bench.js").Bench} bench
- * @returns {SliderNumber[]}
- */
+/** How often tasks come that list themselves again, and events that have a period. @param {import("./bench.js").Bench} bench @returns {SliderNumber[]} */
 function periodsOf({ job, task, event }) {
   const begins = (/** @type {any} */ row) => job.find((it) => it.name !== undefined && row.action.some((/** @type {string} */ line) => line.split(" ")[2] === it.at))?.name;
   const tasks = task.flatMap((row, k) => row.action.map((line, n) => ({ row, k, n, found: AGAIN.exec(line) })))
@@ -58,11 +54,7 @@ function periodsOf({ job, task, event }) {
   return [...tasks, ...events].slice(0, MOST_PERIODS);
 }
 
-/**
- * Numbers of one name by more than their names: by whose they are, or if that is said twice, too, by
- * their places.
- * @param {SliderNumber[]} numbers
- */
+/** Numbers of one name by more than their names: by whose they are, or if that is said twice, too, by their places. @param {SliderNumber[]} numbers */
 function toldApart(numbers) {
   const isTwice = (/** @type {SliderNumber[]} */ all, /** @type {SliderNumber} */ one) =>
     all.filter((it) => it.name === one.name).length > 1;
@@ -148,6 +140,8 @@ function rowOf(number) {
   field.addEventListener("input", () => {
     tell(row);
     held.field = field;
+    // (what is told above may be shorter then: the slider stays under the hand)
+    by("story").style.minHeight = `${by("story").offsetHeight}px`;
     // (one change a frame: what the hand does in between is passed over)
     if (held.due === 0) held.due = requestAnimationFrame(() => ask(name));
   });
@@ -242,11 +236,7 @@ function stealText(steal) {
   return [...new Set(told), historyOf(rows)].join(", else ");
 }
 
-/**
- * What a run has of its bench over time: as it began, and as it was changed.
- * @param {Run} run
- * @param {(bench: import("./bench.js").Bench) => string} told
- */
+/** What a run has of its bench over time: as it began, and as it was changed. @param {Run} run @param {(bench: import("./bench.js").Bench) => string} told */
 function overTime(run, told) {
   const { changes } = run;
   const rows = changes.map((it, k) => ({ from: k === 0 ? 0 : run.ticksAt(changes[k - 1].row), value: told(it.before) }));

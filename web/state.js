@@ -98,10 +98,7 @@ export function isHidden({ hidden, run }) {
   return hidden.includes(run.source);
 }
 
-/**
- * A row, or if it would answer a hidden exercise, the same row without what came of it.
- * @param {State} now @param {number} row
- */
+/** A row, or if it would answer a hidden exercise, the same row without what came of it. @param {State} now @param {number} row */
 export function rowOf(now, row) {
   const shown = rowsOf(now.run).at(row);
   const { bench } = now.run;

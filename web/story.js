@@ -5,19 +5,20 @@ import { outcomeOf } from "./drawing-words.js";
 import { assign, button, by, fill, make, set, withCode, withNumbers } from "./dom.js";
 import { FIRST_ASKED } from "./first.js";
 import { GUESSES } from "./guesses.js";
+import { loadOf } from "./job-table.js";
 import { jobsOf } from "./jobs.js";
 import { pieceOf } from "./pieces.js";
 import { predictionOf, verdictOf } from "./predict.js";
 import { LOG_FULL } from "./run.js";
 import { act, differ, isHidden, namesOf, rowsOf, shownOf } from "./state.js";
-import { octal, seconds, visible } from "./words.js";
+import { counted, octal, seconds, visible } from "./words.js";
 
 /** @typedef {import("./state.js").State} State @typedef {[string, string, ...any[]]} Try what is on the button, the action, and what it is given */
 
 const SEEN = "agc-workbench-guide";
 
 /** Which table is full at an alarm that comes in place of 1202. @type {Record<number, string>} */
-const FULL = { 0o1201: "all five VAC areas are taken", 0o1203: "the Waitlist is full" };
+const FULL = { 0o1201: "all five VAC areas, which some jobs need for larger work, are taken", 0o1203: "the Waitlist is full" };
 
 /** The greatest priority, and how many events may be left out. */
 const MOST_URGENT = "37";
@@ -40,11 +41,10 @@ function tourOf(now) {
   return /** @type {{ text: string, steps: Try[] }[]} */ ([
     { text: "In July 1969, minutes before it landed on the Moon, Apollo 11's computer ran out of room. This landing is like that one.\nThe computer shares its time "
         + "among jobs. Each job needs a core set, a block of twelve words of memory, and there are seven: the rows of the picture.", steps: [["Run", "run"]] },
-    { text: "Every two seconds a guidance job begins, the SERVICER, which needs 1.7 s. A radar that nobody needs steals 0.3 s, and the display takes 0.24 s.\n"
-        + "That is 2.24 s of work in every two, 112 %. Bright: the job that runs, always in set 0. Pale: jobs that wait, and still hold their core sets. "
-        + "Hatched: two jobs that sleep until something wakes them, and hold theirs, too.",
+    { text: "Every two seconds a guidance job begins, the SERVICER. With a display, and a radar that steals computing time from all jobs, there is 2.24 s of work in every two.\n"
+        + "Bright: the job that runs. Pale: jobs that wait, and still hold their core sets.",
       steps: [run.isAlarm(at) ? ["What happened?", "tour", 3] : ["To the alarm", "alarm-next"]] },
-    { text: `Alarm 1202: ${firstBecause(now)} Two sleeping jobs hold the other two.\nWhat would have prevented it? Guess:`, steps: guesses },
+    { text: `Alarm 1202: ${firstBecause(now)} Two jobs that sleep (hatched) hold the other two.\nWhat would have prevented it? Guess:`, steps: guesses },
     { text: guesses.length > 0 ? "Try the others, or go on:" : "You have tried all four.", steps: [...guesses, ["What helps", "tour", 5]] },
     { text: "Less work prevents the alarm; more room only delays it.\nIn 1969 nobody had time to try. But with each alarm the computer restarted: it dropped all jobs, "
         + "the sleepers too, and by its phase tables began the guidance again and nothing else. So it went on, five times, down to the Moon.",
@@ -171,22 +171,43 @@ export function triesOf(now, shown) {
 
 let drawn = "";
 
+/** What came of a change, in a sentence, at the row at which it was made; nothing where none was. @param {State} now */
+function changeText({ run, count, at, before, moved, clock }) {
+  if (before === null || moved.run !== run || moved.at !== at || run.isFilling || clock.isRunning || run.bench.seconds === undefined) return "";
+  const [then, now] = [before, { run, count }].map((it) => ({ load: loadOf(it.run), missed: jobsOf(it.run, it.count).reduce((sum, row) => sum + row.missed, 0),
+    alarms: it.run.alarms.filter((row) => row <= it.count).length }));
+  const load = `${then.load === now.load ? "Same load," : "A load of"} ${now.load} %`;
+  const said = now.missed > 0 ? `${counted(now.missed, "deadline")} missed, ${then.missed} before.` : then.missed > 0 ? "nothing is late now."
+    : now.alarms > 0 ? `${counted(now.alarms, "alarm")}, ${then.alarms} before.` : then.alarms > 0 ? "no alarm comes now." : "no alarm, as before.";
+  return `${load}: ${said}`;
+}
+
+/** What is opened or gone to is seen from its top: not as a number is changed, or a request typed, further down. @param {State} now @param {State} before */
+function toTop(now, before) {
+  if (now.clock.isRunning || now.moved.run === now.run && now.moved !== before.moved) return;
+  by("story").style.minHeight = "";
+  by("told").scrollTop = 0;
+  if (document.activeElement?.closest(".ask, .clock, .edit") === null) by("side").scrollTop = 0;
+}
+
 /** @param {State} now @param {State} before */
 export function account(now, before) {
-  if (!differ(now, before, "run", "count", "at", "isAfter", "hidden", "beside", "tour")) return;
+  if (!differ(now, before, "run", "count", "at", "isAfter", "hidden", "beside", "tour", "clock")) return;
   const { run, count } = now;
   const shown = shownOf(now);
+  toTop(now, before);
   const names = namesOf(run);
   const { heading, lines, isAlarm } = accountOf(run, shown, names, { about: run.about, count, isHidden: isHidden(now) });
   const late = isAlarm || shown.isAfter || isHidden(now) ? null : lateOf(run, shown, names);
   const isPlain = shown.row > 0 && !isAlarm && late === null && !shown.isAfter && !isHidden(now);
   assign(by("told"), { hidden: now.tour.step > 0, className: `told${isAlarm || late !== null ? " alarm" : isPlain ? " plain" : ""}` });
-  set(by("told-name"), late === null ? heading : "A deadline is missed: why");
-  set(by("because"), late !== null ? begun(late.text) : isAlarm ? begun(`${strawOf(run, shown, names)} ${becauseOf(run, shown, names)}`.trim()) : "");
+  const verdict = isPlain || shown.row === 0 ? changeText(now) : "";
+  set(by("told-name"), verdict !== "" ? "What came of it" : late === null ? heading : "A deadline is missed: why");
+  set(by("because"), verdict !== "" ? verdict : late !== null ? begun(late.text) : isAlarm ? begun(`${strawOf(run, shown, names)} ${becauseOf(run, shown, names)}`.trim()) : "");
   buttons("try", triesOf(now, shown));
   assign(by("try"), { hidden: by("try").childElementCount === 0 });
-  const isAsked = shown.who !== "nobody" && !shown.isAfter;
-  const all = late !== null ? [[standingOf(shown, names)]]
+  const isAsked = !["nobody", "the clock"].includes(shown.who) && !shown.isAfter;
+  const all = late !== null || (isPlain && (verdict !== "" || now.clock.isRunning)) ? [[standingOf(shown, names)]]
     : [...lines, ...(isAsked ? [[`Asked by ${shown.who}.`]] : []), ...(isPlain ? [[standingOf(shown, names)]] : [])];
   const key = JSON.stringify(all);
   if (key === drawn) return;

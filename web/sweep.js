@@ -33,10 +33,7 @@ export function* firstAlarm({ sets = 7, task, phase, power, limit, allowance, se
   return found;
 }
 
-/**
- * The values of a number that are tried: first some that lie far apart, and then those between them.
- * @param {{ min: number, max: number }} number
- */
+/** The values of a number that are tried: first some that lie far apart, and then those between them. @param {{ min: number, max: number }} number */
 export function valuesOf({ min, max }) {
   const step = Math.max(1, Math.ceil((max - min) / (MOST_VALUES - 1)));
   const all = Array.from({ length: Math.floor((max - min) / step) + 1 }, (_, k) => min + step * k);

@@ -94,7 +94,7 @@ function setBox(shown, k, names, colours) {
   return { name: `set ${k}`, strong: name ?? `job ${job.number}`, isNew,
     style: `${job.asleep ? `asleep s${colour}` : runs ? `j${colour} runs` : `s${colour}`}${comes(shown, job)}`,
     more: [`${stands}${job.area > 0 ? `, area ${job.area}` : ""}`,
-      name === undefined ? `at ${octal(job.at, 5)}` : `job ${job.number}`, `priority ${octal(job.priority, 2)}`] };
+      name === undefined ? `at ${octal(job.at, 5)}` : `job ${job.number}`, `priority ${names.priority(job.priority)}`] };
 }
 
 /** @param {Shown} shown @param {number} k @param {Names} names @param {Colours} colours @returns {Box} */

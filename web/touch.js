@@ -38,10 +38,10 @@ function ofJob(run, shown, job, since, from) {
   const runs = shown.scene.running === job.number;
   const state = runs ? "It runs" : job.asleep ? "It sleeps" : "It waits for its turn";
   const pieces = [`Job ${job.number} began at ${names.ofJob(from)}`, ...sinceOf(run, since),
-    `. ${state}, with priority ${octal(job.priority, 2)}${job.area > 0 ? `, and owns VAC area ${job.area}` : ""}.`];
+    `. ${state}, with priority ${names.priority(job.priority)}${job.area > 0 ? `, and owns VAC area ${job.area}` : ""}.`];
   if (runs) {
     const prio = make("select", { "aria-label": "Priority", onchange: () => act("ask", `prio ${prio.value}`) },
-      ...Array.from({ length: 31 }, (_, n) => make("option", {}, octal(n + 1, 2))));
+      ...Array.from({ length: 31 }, (_, n) => make("option", { value: octal(n + 1, 2) }, names.priority(n + 1))));
     prio.value = octal(job.priority, 2);
     return { pieces, actions: [asks("end", "End it"), asks(`sleep ${octal(job.at, 5)}`, "Put it to sleep"), make("label", {}, "Priority ", prio)] };
   }

@@ -27,12 +27,7 @@ function textsFor(part, bench, scene, word) {
   return word === "list" ? bench.task.map((it) => it.at) : jobs;
 }
 
-/**
- * The lines that may come of what was typed.
- * @param {string} typed
- * @param {import("./bench.js").Bench} bench
- * @param {import("../libagc/js/machine.js").Scene} scene
- */
+/** The lines that may come of what was typed. @param {string} typed @param {import("./bench.js").Bench} bench @param {import("../libagc/js/machine.js").Scene} scene */
 export function completions(typed, bench, scene) {
   const words = typed.split(" ");
   const last = words.at(-1) ?? "";
@@ -46,10 +41,7 @@ export function completions(typed, bench, scene) {
   return [...new Set([...named, ...texts])].slice(0, MOST_OFFERED).map((it) => `${front} ${it}`);
 }
 
-/**
- * What is said below the line as it is typed.
- * @param {string} typed
- */
+/** What is said below the line as it is typed. @param {string} typed */
 export function hintOf(typed) {
   const words = typed.split(" ");
   const parts = FORMS.get(words[0]);

@@ -56,18 +56,22 @@ def try_files(browser, trial):
 
 
 def try_examples(browser, trial):
-    """Examples are told by their first sentence, and exercises by their question; what a link carries that can't be opened is said,
+    """Examples are told by topic in words of their own, and exercises by their question; what a link carries that can't be opened is said,
     and so is that a document is too long for one."""
     browser.click("examples")
-    told = texts(browser, "[aria-label=examples] li")
-    trial.expect(f"an example is told: {told}", "A key pressed too often: alarm 1201no-vac-areaAlarm 1201: the astronaut presses a key again and again, "
-                 "and each press establishes a job with a VAC area.|" in told)
-    trial.expect("marks of code are shown", "`" not in told and "agc_watch explore --bench 1201" in texts(browser, "[aria-label=examples] code"))
-    browser.value("document.querySelector('[aria-label=examples] button').click()")
+    told = texts(browser, "[aria-label='Other tables that fill up'] li")
+    trial.expect(f"an example is told: {told}", told.startswith("A key pressed too often: alarm 1201Each press begins a job with a VAC area, a larger work area, "
+                 "and there are only five.|"))
+    told = texts(browser, ".choices .about")
+    trial.expect("an example is told by a file or a command", not any(it in told for it in ("`", ".toml", "agc_watch")))
+    browser.click("to-exercises")
+    top = browser.value("document.querySelector('[aria-label=Exercises]').getBoundingClientRect().top")
+    trial.expect(f"the exercises are at {top}", 0 < top < 200)
+    browser.value("document.querySelector('.choices button').click()")
     wait(lambda: saved(browser)[1].endswith("#landing-1202"))
     trial.expect(saved(browser)[1], saved(browser)[1].endswith("#landing-1202"))
     browser.click("examples")
-    browser.value("document.querySelector('[aria-label=exercises] button').click()")
+    browser.value("document.querySelector('[aria-label=Exercises] button').click()")
     found = texts(browser, "#question p"), texts(browser, "#question pre"), texts(browser, "#try button")
     trial.expect(f"an exercise: {found}", found[0] == "Keep two counts while you read down the script: how many core sets are in use, and how many "
                  "VAC areas. Which request is one too many, and which alarm does it raise?" and found[1].startswith("script = [\n") and not found[2])

@@ -8,9 +8,9 @@ from browsing.pages import edit_text, exercise, open_text, saved, texts
 def try_exercise(browser, trial):
     browser.value("window.scrollTo(0, 400)")
     browser.press("e")
-    names = texts(browser, "#dialog-body [aria-label=exercises] .name")
+    names = texts(browser, "#dialog-body [aria-label=Exercises] .name")
     trial.expect(f"the list of exercises: {names}", names == "|".join(f"{k} of 13" for k in range(1, 14)))
-    browser.value("document.querySelector('#dialog-body [aria-label=exercises] button').click()")
+    browser.value("document.querySelector('#dialog-body [aria-label=Exercises] button').click()")
     trial.expect("an exercise isn't seen from its top", browser.value("window.scrollY") == 0)
     shown = browser.value("document.querySelectorAll('#lines tr:not([aria-hidden])').length")
     trial.expect(f"{shown} rows of an exercise are shown", shown == 1)
