@@ -6,7 +6,7 @@
  * @typedef {import("./drawing.js").Sheet} Sheet
  * @typedef {import("./drawing.js").Edge} Edge
  */
-import { causeOf, needsOf } from "./because.js";
+import { causeOf, needsOf, short } from "./because.js";
 import { textWidth } from "./drawing-pens.js";
 import { budgetOf, countsOf, partAsked } from "./work.js";
 import { seconds } from "./words.js";
@@ -83,11 +83,12 @@ function curve(sheet, scale, yOf) {
 /** What the part that is seen asks for, and what is over all the time there is. @param {Sheet} sheet */
 export function drawBudget(sheet) {
   const { run, count, scale, size, left, right } = sheet;
-  const budget = scale.isTime ? budgetOf(run, count, partAsked(run, scale)) : null;
+  const asked = partAsked(run, scale);
+  const budget = scale.isTime ? budgetOf(run, count, asked) : null;
   if (budget === null) return;
   const { total, stolen, jobs } = budget;
   const [top, high] = [sheet.y + 4, Math.round(BUDGET_LINES * sheet.line)];
-  const sum = `= ${total} %${right - left < LEAST_TOLD ? "" : " of the time"}`;
+  const sum = `= ${total} %${right - left < LEAST_TOLD ? "" : ` of ${seconds(asked.from).replace(/[.]?0* s$/, "")} to ${short(asked.to)}`}`;
   const most = Math.max(LEAST_BAR, STEP * Math.ceil(total / STEP));
   const perPoint = most / (right - left - textWidth(sum, size, true) - 16);
   const all = left + 100 / perPoint;

@@ -110,7 +110,7 @@ function blockOf(sheet, kind, k, entry, scale = sheet.scale) {
   if (job.state === State.SLEEPS) {
     return { ...pale, texts: [`${name ?? `job ${number}`}, asleep`, ...texts], look: { fill: "pale", ground: pale.fill }, hatch: `b${colour}` };
   }
-  const waits = sheet.parts.has("notes") && scale.isTime ? [`${sheet.jobName(at)} waits ${short(scale.endOf(job.to) - scale.placeOfKey(job.from))}`] : [];
+  const waits = sheet.parts.has("notes") && scale.isTime ? [`${sheet.jobName(at)}, waiting since ${short(scale.placeOfKey(job.from))}`] : [];
   return { ...pale, texts: [...waits, ...texts], look: { fill: "pale" } };
 }
 

@@ -64,7 +64,7 @@ function tellWho({ run, names }, kind, id, key) {
   if (kind === "task") return [`task ${names.ofTask({ at: at.items[id], bank: bank.items[id] })}`, ...spanOf(run, "tasks", id)];
   const block = lanes.logs.set.map((_, k) => lanes.blockAt(k, key)).find((it) => it?.id === id);
   const moved = block === undefined || block?.now === at.items[id] ? "" : ` at ${names.ofJob(block?.now ?? 0)}`;
-  const how = !block ? [] : [`priority ${octal(block.priority, 2)}, ${["", "runs", "waits", "sleeps"][block.state]}${moved}${block.area === 0 ? "" : `, VAC area ${block.area}`}`];
+  const how = !block ? [] : [`priority ${names.priority(block.priority)}, ${["", "runs", "waits", "sleeps"][block.state]}${moved}${block.area === 0 ? "" : `, VAC area ${block.area}`}`];
   return [`job ${more.items[id]}, ${names.ofJob(at.items[id])}`, ...how, ...spanOf(run, "jobs", id)];
 }
 

@@ -59,7 +59,7 @@ export function linesOf(now) {
 
 /** @param {State} now @param {State} before */
 export function jobs(now, before) {
-  const { run } = now;
+  const { run, at } = now;
   if (!differ(now, before, "run", "count", "at", "hidden")) return;
   const box = by("jobs-box");
   if (run.given !== before.run?.given) assign(box, { open: run.bench.job.some((it) => it.deadline !== undefined) });
@@ -77,4 +77,6 @@ export function jobs(now, before) {
   fill("jobs-sum", [`Jobs ${time}: ${told.join(" + ")}${told.length > 1 ? ` = ${percent(all)}` : ""}`,
     ...(missed > 0 ? ["; ", make("span", { class: "late" }, `${counted(missed, "deadline")} missed`)] : [])]);
   fill("jobs", linesOf(now));
+  // (jobs that haven't begun yet have their room)
+  if (at === 0) box.lastElementChild.style.minHeight = `${by("jobs").parentElement.offsetHeight}px`;
 }

@@ -140,8 +140,6 @@ function rowOf(number) {
   field.addEventListener("input", () => {
     tell(row);
     held.field = field;
-    // (what is told above may be shorter then: the slider stays under the hand)
-    by("story").style.minHeight = `${by("story").offsetHeight}px`;
     // (one change a frame: what the hand does in between is passed over)
     if (held.due === 0) held.due = requestAnimationFrame(() => ask(name));
   });

@@ -185,7 +185,6 @@ function changeText({ run, count, at, before, moved, clock }) {
 /** What is opened or gone to is seen from its top: not as a number is changed, or a request typed, further down. @param {State} now @param {State} before */
 function toTop(now, before) {
   if (now.clock.isRunning || now.moved.run === now.run && now.moved !== before.moved) return;
-  by("story").style.minHeight = "";
   by("told").scrollTop = 0;
   if (document.activeElement?.closest(".ask, .clock, .edit") === null) by("side").scrollTop = 0;
 }

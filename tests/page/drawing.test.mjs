@@ -104,7 +104,7 @@ test("the picture says why its alarm came", () => {
   const told = (/** @type {string[]} */ parts) => pictureOf(run, run.count, { width: 900, to: 4500, parts }).marks.flatMap((it) => (it.kind === "text" ? [it.text] : []));
   const notes = ["each SERVICER adds 1.7 s of work, but only 1.5 s gets done", "all 5 areas taken:", "5 SERVICERs"];
   expect("what is said", notes.map((it) => told(["alarms", "work", "sets", "notes"]).includes(it)), [true, true, true]);
-  expect("who waits, and how long", told(["sets", "notes"]).some((it) => /^SERVICER waits [0-9]+([.][0-9])? s$/.test(it)), true);
+  expect("who waits, and since when", told(["sets", "notes"]).some((it) => /^SERVICER, waiting since [0-9]+([.][0-9]+)? s$/.test(it)), true);
   // (in a view that begins long before, it doesn't hold)
   const apollo = runOf(readFileSync(new URL("examples/apollo-11.toml", TOP), "utf8"));
   expect("a steady part isn't explained", pictureOf(apollo, apollo.count, { width: 900, parts: ["work", "notes"] }).marks.filter((it) => it.kind === "text" && it.text.includes("done")), []);

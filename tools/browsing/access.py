@@ -207,6 +207,8 @@ STEPPED = """(() => {
     'h2, button[id], input, .boxes, .boxes li, canvas, #told, #hint')).map((it) => {
     if (it.closest('#try, #told, dialog, .print-only, .sliders, #beside')) return '';
     const box = it.getBoundingClientRect();
+    // (on a phone the story is as high as its text, and what is below it moves)
+    if (innerWidth < 600 && box.top >= document.getElementById('story').getBoundingClientRect().bottom) return '';
     // (a free place is half as high, within its row)
     return [it.id || it.parentElement.id, box.left, box.top + scrollY, it.matches('.boxes li') ? 0 : box.height].map((one) =>
       (typeof one === 'number' ? Math.round(one) : one)).join(' ');
@@ -227,7 +229,7 @@ STEPPED = """(() => {
 
 def calm(browser, folder):
     """Nothing jumps: as one goes through examples, at four widths, headings, controls and boxes stay where
-    they are, also at an alarm. Where less motion is wished, nothing moves by itself, and a running clock
+    they are, also at an alarm; on a phone those above the story. Where less motion is wished, nothing moves by itself, and a running clock
     is drawn at most four times a second."""
     trial = Trial("calm")
     for name, rows in ((SHOWN_EXAMPLE, "2, 10, 19, 20, 21"), ("waitlist-full", "2, 9, 12, 13"),

@@ -182,7 +182,7 @@ def edit_text(browser, text):
 
 def go_to(browser, text):
     """Types where to go."""
-    browser.value(f"document.getElementById('expert').open = true; document.getElementById('go').value = {json.dumps(text)}")
+    browser.value(f"for (const it of ['more', 'expert']) document.getElementById(it).open = true; document.getElementById('go').value = {json.dumps(text)}")
     browser.value("document.getElementById('go').focus()")
     browser.press("Enter")
     browser.value("document.activeElement.blur()")
