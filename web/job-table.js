@@ -70,7 +70,7 @@ export function jobs(now, before) {
     return;
   }
   const { parts, stolen, all, time } = tableOf(now);
-  assign(box, { hidden: parts.length === 0 || isHidden(now) });
+  assign(box, { hidden: (parts.length === 0 && (at === 0 || box.hidden)) || isHidden(now) });
   if (box.hidden) return;
   const missed = parts.reduce((sum, it) => sum + it.row.missed, 0);
   const told = [...parts.filter((it) => it.part > 0).map(({ name, part }) => `${name} ${percent(part)}`), ...(stolen > 0 ? [`stolen ${percent(stolen)}`] : [])];

@@ -69,7 +69,7 @@ export function chart(now, before) {
   attribute(by("slider"), "aria-valuetext", `request ${now.at} of ${now.count}`);
   if (!isThere) return;
   if (differ(now, before, "run", "count", "hidden")) set(by("summary"), summaryOf(now.run, now.count));
-  const isOther = differ(now, before, "run", "seen", "opened", "selection", "before", "hidden", "isProjected", "isEmbedded", "tour");
+  const isOther = drawn.sheet?.run !== now.run || differ(now, before, "run", "seen", "opened", "selection", "before", "hidden", "isProjected", "isEmbedded", "tour");
   if (isOther || (drawn.sheet.count !== now.count && !canWait(now))) paintNow(now);
   else if (differ(now, before, "at")) drawAt(now);
 }

@@ -38,7 +38,7 @@ document.addEventListener('securitypolicyviolation', function (e) {
   window.broken.push('policy: ' + e.violatedDirective + ' ' + e.blockedURI); });
 window.addEventListener('unhandledrejection', function (e) {
   window.broken.push('rejection: ' + e.reason); });
-window.addEventListener('error', function (e) { window.broken.push('error: ' + e.message); });"""
+window.addEventListener('error', function (e) { window.broken.push('error: ' + (e.error?.stack ?? e.message)); });"""
 
 
 class Browser:

@@ -66,7 +66,7 @@ def try_examples(browser, trial):
     trial.expect("an example is told by a file or a command", not any(it in told for it in ("`", ".toml", "agc_watch")))
     browser.click("to-exercises")
     top = browser.value("document.querySelector('[aria-label=Exercises]').getBoundingClientRect().top")
-    trial.expect(f"the exercises are at {top}", 0 < top < 200)
+    trial.expect(f"the exercises are at {top}", 0 < top < 500)
     browser.value("document.querySelector('.choices button').click()")
     wait(lambda: saved(browser)[1].endswith("#landing-1202"))
     trial.expect(saved(browser)[1], saved(browser)[1].endswith("#landing-1202"))

@@ -19,12 +19,12 @@ def try_panel(browser, trial):
     stops at an alarm."""
     open_text(browser, PANEL)
     told = browser.value(SLIDERS)
-    trial.expect(told, told == "Stolen time 0 100 50 50 % 50 %, WORK 1 400 10 0.10 s 0.10 s, 05000 1 600 300 3.00 s 3.00 s, Core sets 7 8 7 7 7")
+    trial.expect(told, told == "Stolen time 0 100 50 50 % 50 %, WORK needs 1 400 10 0.10 s 0.10 s, 05000 needs 1 600 300 3.00 s 3.00 s, Core sets 7 8 7 7 7")
     for value in 37, 10:
         browser.value("(() => { const it = document.querySelectorAll('#sliders input')[1];"
                       f" it.value = '{value}'; it.dispatchEvent(new Event('input')); }})()")
         told = browser.value(SLIDERS)
-        trial.expect(f"as a slider moves: {told}", f"WORK 1 400 {value} {value / 100:.2f} s {value / 100:.2f} s" in told)
+        trial.expect(f"as a slider moves: {told}", f"WORK needs 1 400 {value} {value / 100:.2f} s {value / 100:.2f} s" in told)
     browser.click("here")
     for typed, wanted in ("0", "the beginning"), ("0.5 s", "0.50 s"), ("1", "request 1"):
         go_to(browser, typed)
@@ -71,7 +71,7 @@ def try_percent(browser, trial):
     trial.expect("a box at the first row", browser.value(box))
     set_slider(browser, 23)
     told = browser.text("outcome"), texts(browser, "#differs")
-    trial.expect(f"23 percent: {told}", told[0].startswith("Before: no alarm; ") and "Now: 1 alarm: 1201, " in told[0]
+    trial.expect(f"23 percent: {told}", told[0].startswith("Before: no alarm; ") and "Now: 1 alarm: 1201 at " in told[0]
                  and told[1] == "This run differs from its document: steal 23 % (document: 15 %).")
     trial.expect("what is changed is hidden", browser.value("document.getElementById('show-answer') === null"))
     go_to(browser, "32 s")
