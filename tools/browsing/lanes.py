@@ -189,6 +189,7 @@ def try_arrow(browser, trial):
 # Where the edge of this part of the budget is, which is the lowest band.
 EDGE = """((wanted, left, right) => {
   const canvas = document.getElementById('lanes-chart');
+  canvas.scrollIntoView({ block: 'end' });
   const { top, height } = canvas.getBoundingClientRect();
   const told = (x, y) => {
     canvas.dispatchEvent(new PointerEvent('pointermove', { clientX: x, clientY: y, pointerType: 'mouse', bubbles: true }));
