@@ -2,7 +2,7 @@
 use crate::commands::{named_command, whole_command};
 use crate::page::PageView;
 use crate::progress::WorkUnit;
-use crate::stops::{Stop, join_words};
+use crate::stops::Stop;
 use agc_explore::{CallerRules, ExploreOptions, TickBounds};
 use agc_plan::Alarm;
 use agc_program::ProgramFault;
@@ -10,7 +10,7 @@ use agc_table::TableForm;
 use agc_trace::{TraceFormat, TraceOptions};
 use clap::error::ErrorKind;
 use clap::{ArgMatches, Command, Error};
-use std::alloc::Global;
+use std::alloc::{AllocError, Global};
 
 /// The most states of a search, unless the words name another number.
 const STATES: u64 = 2_000_000;
@@ -468,11 +468,20 @@ fn parse_matches<'a>(
     }
 }
 
+/// A reason, and the word that isn't what it wants.
+fn reason_with(alloc: Global, reason: &str, word: &str) -> Result<String, AllocError> {
+    let mut text = String::from_str(alloc, reason)?;
+    text.push_str(", not '")?;
+    text.push_str(word)?;
+    text.push_str("'")?;
+    Ok(text)
+}
+
 /// Words after this command that have this fault.
 fn refused_word(alloc: Global, command: &str, fault: WordFault<'_>) -> Stop {
     match fault.word {
         None => refused_words(alloc, command, fault.reason),
-        Some(word) => match join_words(alloc, &[fault.reason, ", not '", word, "'"]) {
+        Some(word) => match reason_with(alloc, fault.reason, word) {
             Ok(reason) => refused_words(alloc, command, reason.as_str()),
             Err(_no_memory) => Stop::ProgramFault(ProgramFault::NoMemory),
         },
