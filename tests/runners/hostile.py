@@ -175,9 +175,9 @@ def words(hostile):
 
 
 def growths(hostile):
-    """A run of which one growth is refused says so, and has written nothing, or of a sweep its first rows. Before it
-    reads, the program takes memory for the command line, some of which it can do without: then the run goes on as if
-    nothing was refused. That is tried of one command of each program, since all commands take it alike."""
+    """A run of which one growth is refused says so, and has written nothing, or of a sweep its first rows. One growth it
+    may do without, as of room that is asked for ahead: then it writes the whole text, as if nothing was refused. What is
+    taken for the command line is tried of one command of each program, since all commands take it alike."""
     tried = set()
     for word, text, whole in words(hostile):
         refusals = {NO_MEMORY, NO_THREAD} if word == "threads" else {NO_MEMORY}
@@ -187,7 +187,7 @@ def growths(hostile):
             ended = hostile.run(word, text, fail_growth=k)
             is_front = word.startswith("sweep") and whole.text.startswith(ended.text)
             is_told = ended.said in refusals and (not ended.text or is_front)
-            is_spared = k <= whole.before_input and ended.said == DONE and ended.text == whole.text
+            is_spared = ended.said == DONE and ended.text == whole.text
             spared += is_spared
             hostile.expect(f"{word}, growth {k}", is_told or is_spared, ended)
         ended = hostile.run(word, text, fail_growth=whole.growths + 1)
