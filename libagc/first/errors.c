@@ -20,7 +20,7 @@ int main(void) {
 
     uint32_t code = agc_plan_check(&plan);
     if (code != AGC_OK)
-        printf("row %u: %s\n", (unsigned)agc_plan_first(&plan) + 1, agc_code_text(code));
+        printf("task row %u: %s\n", (unsigned)agc_plan_first(&plan) + 1, agc_code_text(code));
     code = agc_clock_check(&times);
     if (code != AGC_OK) printf("cost %u: %s\n", wrong_cost(times), agc_code_text(code));
 
