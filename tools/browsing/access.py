@@ -194,10 +194,8 @@ def reach(browser, trial, told):
     for _ in range(count + 14):
         browser.press("Tab")
         reached.append(browser.value(f"{CONTROLS}.indexOf(document.activeElement)"))
-        seen = browser.value(OUTLINE)
-        trial.expect(f"{told}: the focus isn't seen: {seen}", seen == "fine")
-    order = [it for it in dict.fromkeys(reached) if it >= 0]
-    trial.expect(f"{told}: the tabulator goes {order}", order == list(range(count)))
+        trial.same(f"{told}: the focus isn't seen", browser.value(OUTLINE), "fine")
+    trial.same(f"{told}: the tabulator goes", [it for it in dict.fromkeys(reached) if it >= 0], list(range(count)))
 
 
 # Goes through rows of a page, those around each alarm and some others: what stands elsewhere than in the
@@ -239,8 +237,7 @@ def calm(browser, folder):
         for size in SIZES:
             browser.width(*size)
             browser.show(path)
-            moved = browser.value(STEPPED.replace("ROWS", rows))
-            trial.expect(f"{name}, {size[0]} points, {moved}", moved == "")
+            trial.same(f"{name}, {size[0]} points: moved", browser.value(STEPPED.replace("ROWS", rows)), "")
     browser.width(*LAPTOP)
     browser.scheme("light", is_calm=True)
     browser.show(save(folder, "calm", page_of(TIGHT)))

@@ -24,16 +24,13 @@ def try_accounts(browser, trial):
         trial.expect(f"row {row}: {told}", by in told and "clock" not in told and "centisecond" not in told)
     for row, marked in CHANGED.items():
         go_to(browser, str(row))
-        found = browser.value(MARKED)
-        trial.expect(f"row {row}: {found} are marked", found == marked)
-        is_change = browser.value("document.querySelector('#lines tr[aria-current]').className") == "change"
-        trial.expect(f"row {row} is marked as a change: {is_change}", is_change == (bool(marked or row in (24, 33)) and row != 25))
+        trial.same(f"the marks of row {row}", browser.value(MARKED), marked)
+        trial.same(f"row {row} is marked as a change", browser.value("document.querySelector('#lines tr[aria-current]').className") == "change", bool(marked or row in (24, 33)) and row != 25)
     go_to(browser, "9")
     bars = browser.value("Array.from(document.querySelectorAll('#tasks progress'), (it) => (it.hidden ? '0' : it.value.toFixed(2))).join(' ')")
     trial.expect(f"the bars of tasks: {bars}", bars.startswith("0.67 0.67 1.00 0"))
     go_to(browser, "24")
-    marked = browser.value("Array.from(document.querySelectorAll('#lines td.alarm'), (it) => it.textContent).join()")
-    trial.expect(f"the alarm in the list: {marked}", marked == "tick 02000/00005 alarm 1201")
+    trial.same("the alarm in the list", browser.value("Array.from(document.querySelectorAll('#lines td.alarm'), (it) => it.textContent).join()"), "tick 02000/00005 alarm 1201")
     trial.expect("the full table", browser.value("Array.from(document.querySelectorAll('.full'), (it) => it.id).join()") == "areas")
     trial.expect("what is full is no link", browser.value("document.querySelector('#account a').getAttribute('href')") == "#areas-name")
     browser.value("document.querySelector('#account a[href=\"#11\"]').click()")
@@ -42,8 +39,7 @@ def try_accounts(browser, trial):
     seen = browser.value("document.getElementById('codes').innerText.replaceAll('\\n', ' ')")
     trial.expect(f"FAILREG {seen}", seen.replace("changed", "").split() == ["first", "1201", "second", "none", "latest", "1201"])
     go_to(browser, "3")
-    named = browser.value("document.getElementById('newjob').textContent")
-    trial.expect(f"NEWJOB {named}", named == "namesjob 2changed")
+    trial.same("NEWJOB", browser.value("document.getElementById('newjob').textContent"), "namesjob 2changed")
     sets = browser.shown()["sets"][:3]
     trial.expect(f"{sets}", sets[0].split("\n") == ["set 0", "job 1", "runs, area 1", "at 04000", "priority 16"]
                  and sets[1].split("\n")[:5] == ["set 1", "job 2", "NEWJOB", "at 04100", "priority 24"] and sets[2] == "set 2\nfree")
@@ -56,8 +52,7 @@ def try_accounts(browser, trial):
     told = browser.value("Array.from(document.querySelectorAll('#sets li'), (it) => `${it.className}: ${it.innerText}`).slice(0, 2)")
     trial.expect(f"{told}", told[0].split("\n") == ["j4 runs new: set 0", "job 2", "runs", "at 04100", "priority 24", "changed"]
                  and told[1].split("\n") == ["asleep s3 turns-over new: set 1", "job 1", "asleep, area 1", "at 06000", "priority 16", "changed"])
-    word = browser.value("document.querySelector('#words-rows tr').textContent")
-    trial.expect(f"the words stay: {word}", word == "000002core set 0, number")
+    trial.same("the words stay", browser.value("document.querySelector('#words-rows tr').textContent"), "000002core set 0, number")
     browser.value("document.getElementById('words-box').open = false")
 
 
@@ -66,10 +61,8 @@ def try_rows(browser, trial):
     open_text(browser, "script = " + json.dumps([*49 * ["tick"], "novac 20 04000 00005", *50 * ["tick"]]) + "\n")
     for row, first in (0, 0), (5, 0), (50, 43), (90, 83), (95, 86), (100, 86):
         go_to(browser, str(row))
-        numbers = browser.value("Array.from(document.querySelectorAll('#lines tr'), (it) => it.children[0].textContent).join(' ')")
-        trial.expect(f"around row {row}: {numbers}", numbers == " ".join(map(str, range(first, first + 15))))
-        current = browser.value("document.querySelector('#lines tr[aria-current]').children[0].textContent")
-        trial.expect(f"row {current} is marked, not {row}", current == str(row))
+        trial.same(f"around row {row}", browser.value("Array.from(document.querySelectorAll('#lines tr'), (it) => it.children[0].textContent).join(' ')"), " ".join(map(str, range(first, first + 15))))
+        trial.same("the marked row", browser.value("document.querySelector('#lines tr[aria-current]').children[0].textContent"), str(row))
     go_to(browser, "50")
     changed = browser.value("Array.from(document.querySelectorAll('#lines tr.change'), (it) => it.textContent).join(' ')")
     trial.expect(f"the change: {changed}", changed == "500.49novac 20 04000 00005job 111/20 . . . . . .. . . . .-the script")
@@ -90,8 +83,7 @@ def try_orders(browser, trial):
     trial.expect("the button loses the focus", browser.value("document.activeElement.textContent") == "worker 2: end")
     for _ in range(3):
         browser.value("document.querySelectorAll('#turns button')[1].click()")
-    told = texts(browser, "#turns button"), browser.value("document.querySelectorAll('#turns button')[1].disabled")
-    trial.expect(f"a worker that is done: {told}", told == ("worker 1: end|worker 2 has asked for all", True))
+    trial.same("a worker that is done", (texts(browser, "#turns button"), browser.value("document.querySelectorAll('#turns button')[1].disabled")), ("worker 1: end|worker 2 has asked for all", True))
     open_text(browser, "")
     trial.expect("turns of nobody", browser.value("document.getElementById('turns').hidden"))
 

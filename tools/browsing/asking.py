@@ -52,21 +52,18 @@ def try_offers(browser, trial):
     type_in(browser, "re")
     for key, wanted in ("ArrowDown", "restart"), ("ArrowUp", "restart"), ("ArrowUp", "restart"):
         browser.press(key)
-        chosen = browser.value("document.querySelector('#offers [aria-selected=true]').textContent")
-        trial.expect(f"{chosen} is chosen by {key}", chosen == wanted)
+        trial.same(f"the choice by {key}", browser.value("document.querySelector('#offers [aria-selected=true]').textContent"), wanted)
     type_in(browser, "tock")
     for key, wanted in ("", "hint, false"), ("Enter", "hint wrong, false"), ("Tab", "hint wrong, false"):
         if key:
             browser.press(key)
-        found = browser.value("`${document.getElementById('hint').className}, ${document.getElementById('line').ariaExpanded}`")
-        trial.expect(f"{found} after {key}", found == wanted)
+        trial.same(f"after {key}", browser.value("`${document.getElementById('hint').className}, ${document.getElementById('line').ariaExpanded}`"), wanted)
     browser.value("document.activeElement.blur()")
     trial.expect("what is offered stays", browser.value("document.getElementById('offers').hidden"))
     type_in(browser, "s")
     for key, wanted in ("ArrowUp", "store"), ("ArrowDown", "sleep"), ("ArrowDown", "store"), ("ArrowDown", "sleep"), ("ArrowUp", "store"):
         browser.press(key)
-        chosen = browser.value("document.getElementById(document.getElementById('line').getAttribute('aria-activedescendant')).textContent")
-        trial.expect(f"{chosen} is chosen by {key}", chosen == wanted)
+        trial.same(f"the choice by {key}", browser.value("document.getElementById(document.getElementById('line').getAttribute('aria-activedescendant')).textContent"), wanted)
     browser.value("document.querySelector('#offers li').dispatchEvent(new Event('mousedown'))")
     trial.expect("an offer that is clicked", browser.value("document.getElementById('line').value") == "sleep ")
     type_in(browser, "")
@@ -89,10 +86,8 @@ def try_forms(browser, trial):
     for word, labels, line in (("findvac", "Priority Address Bank", "findvac 20 04000 00005"), ("list", "Centiseconds Address Bank", "list 100 04000 00005"),
                                ("prio", "Priority", "prio 20"), ("phase", "Group Phase", "phase 1 1")):
         browser.value(f"Array.from(document.querySelectorAll('#common button')).find((it) => it.textContent === '{word} …').click()")
-        found = browser.value("Array.from(document.querySelectorAll('.fields:not(#build-fields) label'), (it) => it.firstChild.textContent).join(' ')")
-        trial.expect(f"the form of {word}: {found}", found == labels)
-        lists = browser.value("Array.from(document.querySelectorAll('.fields [name=A]'), (it) => it.getAttribute('list')).join()")
-        trial.expect(f"addresses from {lists}", lists == ("addresses" if "Address" in labels else ""))
+        trial.same(f"the form of {word}", browser.value("Array.from(document.querySelectorAll('.fields:not(#build-fields) label'), (it) => it.firstChild.textContent).join(' ')"), labels)
+        trial.same("lists of addresses", browser.value("Array.from(document.querySelectorAll('.fields [name=A]'), (it) => it.getAttribute('list')).join()"), "addresses" if "Address" in labels else "")
         offered = browser.value("Array.from(document.querySelectorAll('#addresses option'), (it) => `${it.value} ${it.label}`).join(', ')")
         trial.expect(f"addresses: {offered}", word != "findvac" or offered ==
                      "04100 job 2, 06000 job 1, asleep, 02000 ALPHA, 02100 BETA, 05000 WORK")

@@ -28,13 +28,11 @@ def try_files(browser, trial):
     open_text(browser, document)
     trial.expect(browser.text("title"), browser.text("title") == "It takes 1.5 seconds.")
     trial.expect(f"who asks: {texts(browser, '#lines tr:not([aria-hidden]) td:nth-child(9)')}", texts(browser, "#lines tr:not([aria-hidden]) td:nth-child(9)").startswith("|worker 1|device 1, radar|device 1, radar"))
-    bench = tomllib.loads(saved(browser)[0])
-    trial.expect(f"it saves {bench}", bench == {"key": "rouse 02000", "radar": ["rouse 02000", "rouse 02100"],
+    trial.same("it saves", tomllib.loads(saved(browser)[0]), {"key": "rouse 02000", "radar": ["rouse 02000", "rouse 02100"],
                                                  "script": ["tick", *2 * ["rouse 02000", "rouse 02100"]]})
     follow_link(browser)
     browser.click("open")
-    found = browser.value("document.getElementById('pasted').value")
-    trial.expect(f"by its link: {found}", found == document)
+    trial.same("by its link", browser.value("document.getElementById('pasted').value"), document)
     browser.click("open-empty")
     trial.expect(browser.text("title"), browser.text("title") == "an empty bench" and saved(browser)[0] == "")
     at_once = browser.value("(() => { const [save, dialog, close] = ['save', 'dialog', 'close'].map((it) => document.getElementById(it));"

@@ -140,8 +140,7 @@ def try_why(browser, trial, path):
                      "A job is in each core set. These hold them:"] and told[2].startswith("set 0: job 3, ") and told[8].startswith("set 6: job 4, ")
                      and told[9] == "Since the beginning 48 jobs began and 41 ended, and the computer was idle 0 % of the time. "
                      "There was hardly any time to end more. Job 3 ran.")
-        light = browser.value("document.getElementById('dsky').getAttribute('aria-label')")
-        trial.expect(f"at the alarm: {light}", light == "DSKY: program alarm light on, VERB 05 NOUN 09 shows 01202 00000 01202")
+        trial.same("at the alarm", browser.value("document.getElementById('dsky').getAttribute('aria-label')"), "DSKY: program alarm light on, VERB 05 NOUN 09 shows 01202 00000 01202")
 
 
 # How large the texts are that the chart paints from now on, and those that are seen beside it; and what is seen of the page.

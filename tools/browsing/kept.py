@@ -67,9 +67,8 @@ def kept(browser, folder):
     try_sharing(browser, trial, path)
     try_links(browser, trial, path)
     browser.show(path, "#landing-1202&at=3128&embed")
-    seen = browser.value("['lanes-chart', 'sets', 'told', 'open', 'line', 'slider', 'rows'].filter((it) =>"
-                         " document.getElementById(it).getClientRects().length > 0).join()")
-    trial.expect(f"embedded: {seen}", seen == "lanes-chart,sets,told")
+    trial.same("embedded", browser.value("['lanes-chart', 'sets', 'told', 'open', 'line', 'slider', 'rows'].filter((it) =>"
+                         " document.getElementById(it).getClientRects().length > 0).join()"), "lanes-chart,sets,told")
     trial.expect(f"embedded: {browser.value(ROW)}", "alarm 1202" in browser.value(ROW))
     trial.expect(f"{browser.shown()['broken']}", not browser.shown()["broken"])
     return trial.faults
@@ -88,8 +87,7 @@ def try_sharing(browser, trial, path):
     """A shared link brings back row, part, what was done, and the run before; a link to a row of a long run shows what is around it; a
     frame has chart and story alone."""
     browser.show(path, "#landing-1202&at=3128")
-    seen = browser.value("document.getElementById('chart-box').dataset.seen")
-    trial.expect(f"around a step: {seen}", seen == "1950-3400")
+    trial.same("around a step", browser.value("document.getElementById('chart-box').dataset.seen"), "1950-3400")
     open_text(browser, TIGHT)
     set_slider(browser, 0)
     looks = "[document.getElementById('outcome').textContent, document.getElementById('sentence').textContent," \

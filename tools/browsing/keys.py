@@ -41,8 +41,7 @@ def try_keys(browser, trial):
     browser.value("document.getElementById('line').value = ''")
     for key, field in ("g", "go"), ("i", "line"), ("/", "line"):
         browser.press(key)
-        found = browser.value("document.activeElement.id"), browser.value("document.activeElement.value")
-        trial.expect(f"{key} leads to {found}", found == (field, "10" if key == "g" else ""))
+        trial.same(f"{key} leads to", (browser.value("document.activeElement.id"), browser.value("document.activeElement.value")), (field, "10" if key == "g" else ""))
         browser.value("window.pressed = ''")
         browser.press("u")
         trial.expect(f"a key that is typed presses{browser.value('window.pressed')}", browser.value("window.pressed") == "")

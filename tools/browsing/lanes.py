@@ -182,8 +182,7 @@ def try_arrow(browser, trial):
             browser.call("Input.dispatchMouseEvent", type=kind, x=x, y=y, button="left", clickCount=1)
         counts.append(saved_picture(browser, "save-svg").count("READACCS → SERVICER"))
     trial.expect(f"arrows: {counts}", counts == [1, 0])
-    kind = saved_picture(browser, "save-png")
-    trial.expect(f"a picture of points is {kind}", kind == "image/png")
+    trial.same("a picture of points", saved_picture(browser, "save-png"), "image/png")
 
 
 # Where the edge of this part of the budget is, which is the lowest band.

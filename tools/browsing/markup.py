@@ -32,17 +32,15 @@ def try_fields(browser, trial, text):
         go_to(browser, typed)
         trial.expect(f"gone to: {browser.text('sentence')}", browser.text("sentence").startswith(
             "Request 102 of 102" if typed.startswith("9") else "Type the number of a request"))
-    dragged = browser.value("""(() => { const data = new DataTransfer(); const { body } = document; const found = [];
+    trial.same("as a file is dragged", browser.value("""(() => { const data = new DataTransfer(); const { body } = document; const found = [];
       data.items.add(new File([new Uint8Array([0xff, 0, 0x3c])], '<b>\u202e.toml'));
       for (const it of ['dragover', 'dragleave', 'dragover', 'drop']) {
         body.dispatchEvent(new DragEvent(it, { dataTransfer: data }));
         found.push(body.className);
       }
-      return found.join(); })()""")
-    trial.expect(f"as a file is dragged: {dragged}", dragged == "drop,,drop,")
+      return found.join(); })()"""), "drop,,drop,")
     browser.wait("document.getElementById('fault') !== null")
-    fault = browser.value("document.getElementById('fault')?.textContent")
-    trial.expect(f"a file of bytes: {fault}", fault == "This can't be opened. line 1: the document isn't text")
+    trial.same("a file of bytes", browser.value("document.getElementById('fault')?.textContent"), "This can't be opened. line 1: the document isn't text")
     browser.press("Escape")
 
 

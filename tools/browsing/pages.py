@@ -22,6 +22,9 @@ class Trial:
             self.faults.append(f"{self.name}: {what}")
         return holds
 
+    def same(self, what, found, wanted):
+        return self.expect(f"{what}: {found}, not {wanted}", found == wanted)
+
 
 def written(program, word, bench):
     """What a program writes of a bench."""

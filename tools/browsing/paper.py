@@ -46,9 +46,8 @@ def on_paper(browser, trial, what):
     """The page as it is printed, with nothing else on it, and all of it can be read."""
     browser.scheme("dark", media="print")
     browser.value("window.dispatchEvent(new Event('beforeprint'))")
-    shown = browser.value("Array.from(document.querySelectorAll('body *')).filter((it) =>"
-                          " it.getClientRects().length > 0 && !it.closest('#printed')).length")
-    trial.expect(f"{what}: {shown} other elements are printed", shown == 0)
+    trial.same(f"other elements printed of {what}", browser.value("Array.from(document.querySelectorAll('body *')).filter((it) =>"
+                          " it.getClientRects().length > 0 && !it.closest('#printed')).length"), 0)
     for fault in browser.value(CONTRAST):
         trial.expect(f"contrast on paper, {what}: {fault}", False)
 
@@ -76,8 +75,7 @@ def try_rows(browser, trial, path):
     browser.show(path)
     on_paper(browser, trial, "a bench")
     rows = browser.value("Array.from(document.querySelectorAll('#printed tbody tr'), (it) => Array.from(it.children, (one) => one.textContent))")
-    told = [len(cells) for cells in rows].count(1), rows[2][0], rows[-1][0]
-    trial.expect(f"an account, and rows of several ticks: {told}", told == (1, "2 to 5", "37 to 40"))
+    trial.same("an account, and rows of several ticks", ([len(cells) for cells in rows].count(1), rows[2][0], rows[-1][0]), (1, "2 to 5", "37 to 40"))
     trial.expect("the plan of a bench", "novac 20 02000 00005" in texts(browser, "#printed .plan"))
     browser.scheme("light")
 
@@ -122,9 +120,8 @@ def try_seen(browser, trial, path):
 def try_chart_alone(browser, trial, path):
     """A page made for printing shows its title and its chart, and prints these with the summary, on one page."""
     browser.show(path)
-    seen = browser.value("Array.from(document.querySelectorAll('h1, h2, button, canvas, table'), (it) =>"
-                         " (it.checkVisibility() ? it.id : '')).filter((it) => it !== '').join(' ')")
-    trial.expect(f"beside the chart alone: {seen}", seen == "title lanes-chart closer wider fit to-alarm")
+    trial.same("beside the chart alone", browser.value("Array.from(document.querySelectorAll('h1, h2, button, canvas, table'), (it) =>"
+                         " (it.checkVisibility() ? it.id : '')).filter((it) => it !== '').join(' ')"), "title lanes-chart closer wider fit to-alarm")
     wide = browser.value("document.getElementById('lanes-chart').clientWidth / innerWidth")
     trial.expect(f"the chart alone takes {wide} of the width", 0.9 < wide <= 1)
     pages, _ = printed(browser)
@@ -164,6 +161,5 @@ def print_long(browser, trial):
         told = browser.value("document.getElementById('printed').textContent.slice(0, 600)")
         found = browser.value("document.querySelectorAll('#printed tbody tr').length")
         trial.expect(f"{found} lines of {told}", found == count and wanted in told)
-        title = browser.value("document.querySelector('#printed h1').textContent")
-        trial.expect(f"the title {title}", title == text[2:text.index("\n")])
+        trial.same("the title", browser.value("document.querySelector('#printed h1').textContent"), text[2:text.index("\n")])
         trial.expect("no rows are refused", ("refused log full" in browser.text("printed")) == (count == 7))

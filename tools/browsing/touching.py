@@ -35,8 +35,7 @@ def touching(browser, folder):
     browser.value("document.querySelector('#sets').scrollIntoView({ block: 'center' })")
     before = browser.value(tops)
     found = touch(browser, "sets", 1)
-    after = browser.value(f"{DRAWN}.then(() => {tops})", True)
-    trial.expect(f"a click moves the boxes from {before} to {after}", after == before)
+    trial.same("the boxes after a click", browser.value(f"{DRAWN}.then(() => {tops})", True), before)
     box = browser.value("document.getElementById('touch').getBoundingClientRect().bottom - innerHeight")
     trial.expect(f"what is told is {box} points below the window", box <= 0)
     trial.expect(f"a sleeper: {found}", "Job 1 began at 04000, since request 1. It sleeps, with priority 20." in found[1] and found[2] == "Wake it")
@@ -94,12 +93,10 @@ def try_motion(browser, trial, path):
         browser.value(NOTED)
         for line, wanted in ("novac 20 04000 00005", "come"), ("novac 10 04100 00005", "come"), ("sleep 06000", "nod"), ("rouse 06000", "nod"), ("restart", ""):
             type_line(browser, line)
-            found = moves(browser, "" if is_calm else wanted)
-            trial.expect(f"{line}, calm {is_calm}: {found}", found == ("" if is_calm else wanted))
+            trial.same(f"{line}, calm {is_calm}", moves(browser, "" if is_calm else wanted), "" if is_calm else wanted)
             browser.press("Escape")
         browser.value("Array.from(document.querySelectorAll('#try button')).find((it) => it.textContent === 'After the restart').click()")
-        found = moves(browser, "" if is_calm else "swept")
-        trial.expect(f"a restart, calm {is_calm}: {found}", found == ("" if is_calm else "swept"))
+        trial.same(f"a restart, calm {is_calm}", moves(browser, "" if is_calm else "swept"), "" if is_calm else "swept")
     browser.scheme("light")
 
 
@@ -160,8 +157,7 @@ def try_flown(browser, trial, path):
     touch(browser, "sets", 7)
     browser.value("location.hash = '#landing'")
     browser.wait("document.getElementById('title').textContent.startsWith('A landing') && document.body.ariaBusy !== 'true'")
-    told = browser.value("document.getElementById('touch').hidden"), browser.text("note")
-    trial.expect(f"a core set that isn't there any more: {told}", told == (True, ""))
+    trial.same("a core set that isn't there any more", (browser.value("document.getElementById('touch').hidden"), browser.text("note")), (True, ""))
 
 
 def try_no_module(browser, trial, folder):

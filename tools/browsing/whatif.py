@@ -48,14 +48,12 @@ def try_strips(browser, trial):
     for part, wanted in (2, "At 2 %: no alarm"), (15, "At 15 %: 1202 at 30.50 s; with 8 sets 1201 at 38.01 s"):
         browser.value(PRESS.replace("K", "0").replace("PART", str(part / 100)))
         browser.wait(done.format(0))
-        told = browser.value(f"{said}[0].textContent"), browser.value("document.querySelector('#sliders input').value")
-        trial.expect(f"a click at {part}: {told}", told == (wanted, str(part)))
+        trial.same(f"a click at {part}", (browser.value(f"{said}[0].textContent"), browser.value("document.querySelector('#sliders input').value")), (wanted, str(part)))
     named = browser.value("document.querySelector('.strip').ariaLabel")
     trial.expect(f"the strip's name: {named}", named.startswith("When the first alarm comes, over Stolen time: none up to 3 %. At 15 %: 1202 at"))
     browser.value("document.querySelectorAll('.over')[1].click()")
     browser.wait(said + "[1].textContent.includes('with 8 sets')")
-    told = browser.value(f"{said}[1].textContent")
-    trial.expect(f"the cost: {told}", told == "At 1.70 s: 1202 at 30.50 s; with 8 sets 1201 at 38.01 s")
+    trial.same("the cost", browser.value(f"{said}[1].textContent"), "At 1.70 s: 1202 at 30.50 s; with 8 sets 1201 at 38.01 s")
     browser.value("document.querySelectorAll('.over')[1].click()")
     trial.expect("a strip that was closed", browser.value("document.querySelectorAll('.strip').length") == 1)
     exercise(browser, 10)
@@ -78,8 +76,7 @@ def try_jobs(browser, trial):
     """The table of jobs has a row for each; it is open where a job has a deadline, and a click goes to the first that is missed."""
     open_text(browser, LATE)
     browser.wait("!document.getElementById('jobs-box').hidden")
-    told = browser.value("Array.from(document.querySelectorAll('#jobs tr'), (it) => it.children[0].innerText.trim())")
-    trial.expect(f"the jobs: {told}", told == ["fast", "slow", "and stolen 10 %"])
+    trial.same("the jobs", browser.value("Array.from(document.querySelectorAll('#jobs tr'), (it) => it.children[0].innerText.trim())"), ["fast", "slow", "and stolen 10 %"])
     said = browser.text("jobs-sum"), browser.value("document.getElementById('jobs-box').open")
     trial.expect(f"{said}", re.fullmatch(r"Jobs in 20 s: fast 40 % \+ slow 63 % \+ stolen 10 % = 113 %; \d+ deadlines missed", said[0]) and said[1])
     browser.value("document.querySelector('#jobs button').click()")
@@ -93,8 +90,7 @@ def try_jobs(browser, trial):
 
 
 def try_changes(browser, trial):
-    names = texts(browser, "#sliders label span")
-    trial.expect(f"the sliders: {names}", names == "Stolen time|SERVICER needs|display needs|SERVICER every|display every|Core sets")
+    trial.same("the sliders", texts(browser, "#sliders label span"), "Stolen time|SERVICER needs|display needs|SERVICER every|display every|Core sets")
     told = browser.value("Array.from(document.querySelectorAll('#sliders label'), (it) => it.title.split(' ').slice(0, 4).join(' ')).join('|')")
     trial.expect(f"what the sliders are about: {told}", told == "What part of the|How much computing time|How much computing time|"
                  "After how long it|After how long it|How many jobs can")
@@ -104,5 +100,4 @@ def try_changes(browser, trial):
     both = browser.value("document.getElementById('dismiss').hidden")
     trial.expect("before isn't on the chart", not both)
     browser.click("dismiss")
-    both = browser.value("document.getElementById('dismiss').hidden"), browser.text("outcome")
-    trial.expect(f"dismissed: {both}", both == (True, "Move a slider: what comes of it is told here."))
+    trial.same("dismissed", (browser.value("document.getElementById('dismiss').hidden"), browser.text("outcome")), (True, "Move a slider: what comes of it is told here."))
