@@ -59,10 +59,10 @@ function drawNext() {
   if (isReady && run.count === 0) {
     // (where no request follows there is nothing over time: the code that is kept is the picture)
     const { scene: { codes } } = run.show(0, 0)[0];
-    canvas.replaceWith(make("span", { class: "picture dsky" }, make("span", { class: codes[2] === 0 ? "prog" : "prog on" }, "PROG"), octal(codes[2], 5)));
+    canvas.replaceWith(make("span", { class: "picture dsky" }, make("span", {}, "PROG"), octal(codes[2], 5)));
     waiting.shift();
   } else if (isReady) {
-    paint(canvas, pictureOf(run, run.count, { width: WIDE, high: HIGH / run.sets, parts: ["sets"], isBare: true, theme: themeNow(), ...seen }));
+    paint(canvas, pictureOf(run, run.count, { width: canvas.clientWidth || WIDE, high: HIGH / run.sets, parts: ["sets"], isBare: true, theme: themeNow(), ...seen }));
     waiting.shift();
   } else waiting.push(...waiting.splice(0, 1));
   setTimeout(drawNext, 0);

@@ -4,18 +4,15 @@
  */
 import { octal } from "./words.js";
 
-/** How many colours there are: what comes after these has them once more. */
-export const COLOURS = 8;
+/** The hues of jobs that run, on light ground and on dark. They differ in lightness, too, for eyes that don't tell red from green. */
+const HUES = {
+  light: ["#3b63ad", "#dd9a33", "#449b8a", "#a97fc2", "#7cbce6", "#9a5a40", "#7d7a25", "#4d5764"],
+  dark: ["#6f97e3", "#e8b25c", "#57bda5", "#c39be0", "#a5d8f5", "#c27c5c", "#a5a13f", "#7f8b99"],
+};
 
-/** A job that is awake and runs, and the ink on it; one that waits or sleeps, paler. */
-export const BRIGHT = ["#0072b2", "#e69f00", "#009e73", "#cc79a7", "#56b4e9", "#8c5a2b", "#f0e442",
-  "#6b6b6b"];
-export const PALE = ["#a6cee4", "#f6dda6", "#a6ddce", "#edd0e0", "#c4e5f7", "#dcc7b3", "#faf6bd",
-  "#c9c9c9"];
-/** The paler ones on dark ground, where pale would shine out. */
-export const DIM = ["#084a6f", "#7d5807", "#08634a", "#7e4e68", "#2f627f", "#573718", "#67631f",
-  "#464646"];
-export const INK = ["#fff", "#000", "#000", "#000", "#000", "#fff", "#000", "#fff"];
+/** The ink on dark hues and on light ones, and which of the hues on light ground are dark; how much of its hue a job has that waits, and one that sleeps. */
+const [ON_DARK, ON_LIGHT, DARK] = ["#fff", "#10161d", [0, 5, 6, 7]];
+const [WAITS, SLEEPS] = [0.36, 0.13];
 
 /** Forced colours have none between ink and ground, on which ink can be read. @param {number} percent of ink */
 const ground = (percent) => `color-mix(in srgb, CanvasText ${percent}%, Canvas)`;
@@ -23,31 +20,37 @@ const ground = (percent) => `color-mix(in srgb, CanvasText ${percent}%, Canvas)`
 /** What else a picture is drawn with. Red is an alarm, or what is asked for beyond all the time there is. */
 export const GROUND = {
   light: {
-    ...{ ink: "#1c2530", soft: "#5b6775", faint: "#8b96a3", line: "#dfe4ea", paper: "#fff" },
-    ...{ alarm: "#c8102e", act: "#1f5fd0", used: "#aeb8c3", stolen: "#b4bcc6", idle: "#9db7c9" },
-    ...{ curve: "#4a5f7a", work: "#d7dfe8", track: "#f1f3f6", pale: "#000" },
+    ...{ ink: "#1c2530", soft: "#5b6775", faint: "#8b96a3", line: "#e6eaef", paper: "#ffffff" },
+    ...{ alarm: "#c8102e", act: "#1f5fd0", used: "#aeb8c3", stolen: "#c3cad3", idle: "#b9cbd8" },
+    ...{ curve: "#7488a3", work: "#e3e9f1", over: "#f3bfc6", pale: "#1c2530" },
   },
   dark: {
-    ...{ ink: "#e7ebf0", soft: "#a7b1bd", faint: "#7d8895", line: "#2d3540", paper: "#191f27" },
-    ...{ alarm: "#ff6b7d", act: "#7fa8ff", used: "#5a6673", stolen: "#4d5763", idle: "#54738a" },
-    ...{ curve: "#a9bdd6", work: "#2c3a4b", track: "#1f2731", pale: "#fff" },
+    ...{ ink: "#e7ebf0", soft: "#a7b1bd", faint: "#7d8895", line: "#2b333d", paper: "#1a2027" },
+    ...{ alarm: "#ff6b7d", act: "#7fa8ff", used: "#5a6673", stolen: "#4d5763", idle: "#41566a" },
+    ...{ curve: "#8fa6c4", work: "#2a3645", over: "#6b2f3b", pale: "#e7ebf0" },
   },
   forced: {
     ...{ ink: "CanvasText", soft: "CanvasText", faint: "CanvasText", line: ground(15), paper: "Canvas" },
     ...{ alarm: "Highlight", act: "LinkText", used: ground(25), stolen: ground(25), idle: "CanvasText" },
-    ...{ curve: "CanvasText", work: ground(15), track: "Canvas", pale: "#000" },
+    ...{ curve: "CanvasText", work: ground(15), over: ground(35), pale: "#000" },
   },
 };
 
-/**
- * The colours by their names in a picture: `b3` is the third job's as it runs, `p3` as it waits, `i3` the
- * ink on `b3`; and those of the ground.
+/** So much of a colour, over another one. @param {string} one @param {string} other @param {number} part */
+function mix(one, other, part) {
+  const [a, b] = [one, other].map((it) => [1, 3, 5].map((k) => parseInt(it.slice(k, k + 2), 16)));
+  return `#${a.map((it, k) => Math.round(it * part + b[k] * (1 - part)).toString(16).padStart(2, "0")).join("")}`;
+}
+
+/** The colours by their names in a picture: `b3` is the third job's as it runs, `p3` as it waits, `h3` as it sleeps,
+ * `i3` the ink on `b3`; and those of the ground.
  * @param {"light" | "dark" | "forced"} theme
- * @returns {Record<string, string>}
- */
+ * @returns {Record<string, string>} */
 export function paletteOf(theme) {
-  const pale = theme === "dark" ? DIM : PALE;
-  const jobs = BRIGHT.flatMap((it, k) => [[`b${k}`, it], [`p${k}`, pale[k]], [`i${k}`, INK[k]]]);
+  const on = theme === "dark" ? "dark" : "light";
+  const { paper } = GROUND[on];
+  const jobs = HUES[on].flatMap((it, k) => [[`b${k}`, it], [`p${k}`, mix(it, paper, WAITS)], [`h${k}`, mix(it, paper, SLEEPS)],
+    [`i${k}`, on === "light" && DARK.includes(k) ? ON_DARK : ON_LIGHT]]);
   return { ...Object.fromEntries(jobs), ...GROUND[theme] };
 }
 
@@ -72,7 +75,7 @@ export class Colours {
     const name = this.names.job(at) ?? octal(at, 5);
     const known = this.found.get(name);
     if (known !== undefined) return known;
-    const made = this.found.size % COLOURS;
+    const made = this.found.size % HUES.light.length;
     if (this.found.size < MOST_NAMES) this.found.set(name, made);
     return made;
   }

@@ -56,8 +56,8 @@ export function drawCodes(sheet) {
   for (const { x } of alarms) sheet.taken.push([x - 1, x + 1, sheet.top, sheet.top + line]);
   for (const { row, x } of alarms) {
     const text = restartOf(run, row).replace(isLong ? "" : "alarm ", "");
-    const writes = (/** @type {number} */ top) => [x + 3, x - 3].some((at, k) =>
-      sheet.text(text, at, top + line / 2, { fill: "alarm", isBold: true, anchor: k === 0 ? "start" : "end" }));
+    const writes = (/** @type {number} */ top) => [x + 5, x - 5].some((at, k) =>
+      sheet.text(text, at, top + line / 2, { fill: "paper", ground: "alarm", isBold: true, anchor: k === 0 ? "start" : "end" }));
     const top = [sheet.top, sheet.y].find(writes);
     if (top !== undefined) sheet.tops.set(row, top);
   }
@@ -68,8 +68,8 @@ export function drawCodes(sheet) {
 export function drawLines(sheet) {
   const { run, top, y, left, right } = sheet;
   sheet.bottom = y;
-  for (const it of sheet.parts.has("notes") ? sheet.bands : []) {
-    if (it.kind === "set") sheet.rect([left, it.top + 2, right - left, it.bottom - it.top - 4], "track", undefined, 0);
+  for (const it of sheet.view.isBare ? [] : sheet.bands) {
+    if (it.kind === "set") sheet.path([[left, it.bottom], [right, it.bottom]], { stroke: "line" }, 0);
   }
   for (const { place } of sheet.scale.marks(right - left)) {
     sheet.path([[sheet.xOf(place), top], [sheet.xOf(place), y]], { stroke: "line" }, 0);
@@ -114,7 +114,7 @@ export function drawLegend(sheet) {
   const lines = marks.filter((it) => it.kind === "path" && typeof it.told === "string" && it.fill === undefined);
   const entries = [
     ...(isThere(/^b[0-9]/) ? [{ text: "a job runs", fill: "b7" }] : []), ...(isThere(/^p[0-9]/) ? [{ text: "it waits", fill: "p7" }] : []),
-    ...(marks.some((it) => it.kind === "path" && it.isHatch) ? [{ text: "it sleeps", fill: "p7", hatch: "b7" }] : []),
+    ...(isThere(/^h[0-9]/) ? [{ text: "it sleeps", fill: "h7", hatch: "p7" }] : []),
     ...[["alarm", "alarm"], ["ink", "restart or fresh start"]].flatMap(([stroke, text]) =>
       lines.flatMap((it) => (it.kind === "path" && it.stroke === stroke ? { text, line: it } : [])).slice(0, 1)),
     ...[["ink", -1, "asked for"], ["ink", 1, "deadline"], ["alarm", 1, "deadline missed"]].flatMap(([fill, down, text]) =>
@@ -127,7 +127,7 @@ export function drawLegend(sheet) {
     if (x > 8 && x + width > sheet.width - 8) [x, y] = [8, y + line];
     const top = y + (line - 12) / 2;
     if (down !== undefined) sheet.path([[x + 4, top + 6 - 5 * down], [x + 9, top + 6 + 5 * down], [x + 14, top + 6 - 5 * down], [x + 4, top + 6 - 5 * down]], { fill });
-    else if (fill !== undefined) sheet.rect([x, top, 18, 12], fill);
+    else if (fill !== undefined) sheet.rect([x, top, 18, 12, 3], fill);
     if (hatch !== undefined) sheet.hatch([x, x + 18, top, 12], hatch);
     if (like !== undefined) sheet.path([[x + 9, top - 1], [x + 9, top + 13]], { stroke: like.stroke, width: like.width, isDashed: like.isDashed });
     sheet.text(text, x + 24, y + line / 2, { fill: "soft" });

@@ -7,12 +7,13 @@
  * @typedef {import("./drawing.js").Edge} Edge
  */
 import { causeOf, needsOf, short } from "./because.js";
+import { ROUND } from "./drawing-lanes.js";
 import { textWidth } from "./drawing-pens.js";
 import { budgetOf, countsOf, partAsked } from "./work.js";
 import { seconds } from "./words.js";
 
 /** How many lanes the work is high, and how many lines of text the budget; and the least work at the top. */
-const [WORK_LANES, BUDGET_LINES, LEAST_WORK] = [3.4, 1.4, 5_000];
+const [WORK_LANES, BUDGET_LINES, LEAST_WORK] = [3.6, 2.2, 5_000];
 
 /** The budget's bar ends with a multiple of so many percent, and at least here; how wide its plot is at least; and the most
  * that a job costs, and how far it is dragged at least, in centiseconds. */
@@ -33,31 +34,53 @@ export function drawWork(sheet) {
   sheet.bands.push({ kind: "work", top: begins, bottom });
   sheet.name("work", bottom - size * 2);
   sheet.name("waiting", bottom - size * 0.8);
-  if (points.length > 0) {
-    sheet.path([[points[0][0], bottom], ...points, [points[points.length - 1][0], bottom]],
-      { fill: "work", stroke: "curve", width: 1.5, told: "seconds of computing that jobs still need" });
+  // (the least work with which a table became full: what is above it is red)
+  const level = yOf(work.full);
+  for (const [end, look] of /** @type {const} */ ([[bottom, { fill: "work", told: "seconds of computing that jobs still need" }], [level, { fill: "over" }]])) {
+    const part = end < bottom ? above(points, end) : points;
+    if (part.length > 0 && end > begins) sheet.path([[part[0][0], end], ...part, [part[part.length - 1][0], end]], look);
   }
+  sheet.path(points, { stroke: "curve", width: 1.2 });
   if (before !== null) sheet.path(curve(sheet, before, yOf), { stroke: "soft", isDashed: true });
   // (the greatest work that is seen is told at its place)
   const [x, y] = points.reduce((best, it) => (it[1] < best[1] ? it : best), [right, bottom]);
-  const [most, at] = [seconds((highest * (bottom - y)) / (bottom - top) / 100), Math.max(y - 0.5 * size, begins + 0.6 * size)];
-  const isLeft = x - 8 - textWidth(most, size) > left;
-  if (bottom - y >= 2 && !(isLeft && sheet.text(most, x - 5, at, { anchor: "end" }))) sheet.text(most, x + 5, at);
+  const [most, at] = [`${seconds((highest * (bottom - y)) / (bottom - top) / 100)} of work`, Math.max(y - 0.7 * size, begins + 0.6 * size)];
+  const curves = [...points, ...(before === null ? [] : curve(sheet, before, yOf))];
+  if (bottom - y >= 2) writeOver(sheet, curves, [most], [[x - 5, at], [x + 5, at]], "ink");
   noteWork(sheet, top + 0.6 * size, points, yOf);
-  // (the least work with which a table became full, told where there is room after the last alarm)
-  const last = sheet.seen(run.alarms).at(-1)?.x ?? left;
-  const text = sheet.fitting(["room can run out", "can run out"], right - last - 8) ?? "";
   if (work.full < Infinity) {
-    sheet.path([[left, yOf(work.full)], [right, yOf(work.full)]], { stroke: "faint", isDashed: true });
-    sheet.text(text, right - 2, yOf(work.full) - 0.7 * size, { anchor: "end", fill: "soft" });
+    sheet.path([[left, level], [right, level]], { stroke: "alarm", isDashed: true });
+    const middle = level - 0.75 * size;
+    writeOver(sheet, curves, ["above this line, room can run out", "room can run out", "can run out"], [[right - 4, middle], [left + 6, middle]], "alarm");
   }
   sheet.y = bottom + 4;
 }
 
-/**
- * The work over time, as points: of many within one point across only the least and the greatest.
- * @param {Sheet} sheet @param {import("./drawing-scale.js").Scale} scale @param {(hundredths: number) => number} yOf
- */
+/** A curve as far as it is above a level, and along it elsewhere. @param {number[][]} points @param {number} level */
+function above(points, level) {
+  return points.flatMap(([x, y], k) => {
+    const [a, b] = points[k - 1] ?? [x, y];
+    const crossed = b < level === y < level ? [] : [[a + ((x - a) * (level - b)) / (y - b), level]];
+    return [...crossed, [x, Math.min(y, level)]];
+  });
+}
+
+/** Writes one of these texts, left of the first of two points or right of the second, where no curve and no alarm's line goes through it.
+ * @param {Sheet} sheet @param {number[][]} curves @param {string[]} texts @param {number[][]} ends @param {string} fill */
+function writeOver(sheet, curves, texts, ends, fill) {
+  const { size } = sheet;
+  const lines = sheet.seen(sheet.run.alarms).map(({ x }) => x);
+  return texts.some((text) => [1, 0].some((k) => {
+    const [x, middle] = ends[k];
+    const from = x - (k === 0 ? textWidth(text, size) : 0);
+    const isIn = (/** @type {number} */ at) => at > from - 4 && at < from + textWidth(text, size) + 4;
+    const isClear = curves.every(([at, y]) => !isIn(at) || y > middle + 0.6 * size) && !lines.some(isIn);
+    return isClear && from >= sheet.left && sheet.text(text, x, middle, { anchor: k === 0 ? "end" : "start", fill });
+  }));
+}
+
+/** The work over time, as points: of many within one point across only the least and the greatest.
+ * @param {Sheet} sheet @param {import("./drawing-scale.js").Scale} scale @param {(hundredths: number) => number} yOf */
 function curve(sheet, scale, yOf) {
   const { ticks: { items: ticks }, waiting: { items: waiting } } = scale.run.columns;
   /** @type {number[][]} */
@@ -87,10 +110,11 @@ export function drawBudget(sheet) {
   const budget = scale.isTime ? budgetOf(run, count, asked) : null;
   if (budget === null) return;
   const { total, stolen, jobs } = budget;
-  const [top, high] = [sheet.y + 4, Math.round(BUDGET_LINES * sheet.line)];
-  const sum = `= ${total} %${right - left < LEAST_TOLD ? "" : ` of ${seconds(asked.from).replace(/[.]?0* s$/, "")} to ${short(asked.to)}`}`;
+  const [top, high] = [sheet.y + 6, Math.round(BUDGET_LINES * sheet.line)];
+  const over = total > 100 ? `${total - 100} % too much` : `${100 - total} % free`;
+  const sums = right - left < LEAST_TOLD ? [`= ${total} %`] : [`= ${total} %`, over];
   const most = Math.max(LEAST_BAR, STEP * Math.ceil(total / STEP));
-  const perPoint = most / (right - left - textWidth(sum, size, true) - 16);
+  const perPoint = most / (right - left - Math.max(...sums.map((it) => textWidth(it, size, true))) - 16);
   const all = left + 100 / perPoint;
   const { steal } = run.bench;
   const parts = [
@@ -100,12 +124,13 @@ export function drawBudget(sheet) {
       edge: typeof steal === "number" ? { value: steal, perPoint, min: 0, max: 100, given: (/** @type {number} */ it) => ({ steal: it }) } : undefined },
     ...(total < 100 ? [{ name: "free", share: 100 - total, fill: "paper", ink: "soft", edge: undefined }] : []),
   ];
+  const told = `of the time from ${seconds(asked.from).replace(/[.]?0* s$/, "")} to ${short(asked.to)}`;
   sheet.name("budget", top + high / 2);
-  const end = drawParts(sheet, parts, [top, high], perPoint);
+  const end = drawParts(sheet, parts.map((it) => ({ ...it, told })), [top, high], perPoint);
   if (total < 100) sheet.frame([left + total / perPoint, all, top, high], { stroke: "faint", isDashed: true });
-  if (total > 100) sheet.rect([all, top + high - 6, end - all, 6], "alarm", `${total - 100} % over`);
-  sheet.path([[all, top - 4], [all, top + high + 4]], { stroke: "ink", width: 2 });
-  sheet.text(sum, end + 8, top + high / 2, { fill: total > 100 ? "alarm" : "ink", isBold: true });
+  if (total > 100) sheet.frame([all, end, top - 3, high + 6], { stroke: "alarm", width: 2 });
+  else sheet.path([[all, top - 3], [all, top + high + 3]], { stroke: "ink", width: 2 });
+  sums.forEach((it, k) => sheet.text(it, end + 8, top + high * (sums.length === 1 ? 0.5 : 0.27 + 0.46 * k), { fill: total > 100 ? "alarm" : "ink", isBold: k === 0 }));
   sheet.y = top + high + 6;
 }
 
@@ -118,26 +143,25 @@ function costEdge({ bench: { job } }, { at, perTick }, perPoint) {
   return { value: own.cost, perPoint: perPoint / (100 * perTick), min: 1, max, given };
 }
 
-/**
- * Parts side by side, up to 100 percent and beyond. Returns where they end.
- * @param {Sheet} sheet @param {{ name: string, share: number, fill: string, ink: string, edge?: Edge }[]} parts
- * @param {number[]} lane top and height @param {number} perPoint percent
- */
+/** Parts side by side, up to 100 percent and beyond. Returns where they end.
+ * @param {Sheet} sheet @param {{ name: string, share: number, fill: string, ink: string, told: string, edge?: Edge }[]} parts
+ * @param {number[]} lane top and height @param {number} perPoint percent */
 function drawParts(sheet, parts, [top, high], perPoint) {
   const all = sheet.left + 100 / perPoint;
   const bottom = top + high;
   const edges = [];
   let x = sheet.left;
-  for (const { name, share, fill, ink, edge } of parts) {
+  for (const { name, share, fill, ink, told, edge } of parts) {
     const [left, right] = [x, x + share / perPoint];
     const text = `${name} ${share} %`;
     x = right;
-    if (share > 0) sheet.rect([left, top, Math.max(0.5, right - left - 1), high], fill, text);
-    sheet.bands.push({ kind: "budget", name, text, left, right, top, bottom });
+    const wide = Math.max(0.5, right - left - 1);
+    if (share > 0) sheet.rect([left, top, wide, high, ...(wide > 4 * ROUND ? [ROUND] : [])], fill, text);
+    sheet.bands.push({ kind: "budget", name, text: `${text} ${told}`, left, right, top, bottom });
     // (a name doesn't cross the line at 100 percent)
     const middle = left < all && all < right ? all : left;
     const [begins, ends] = middle - left > right - middle ? [left, middle] : [middle, right];
-    sheet.label([text, name, `${share} %`], [begins, ends, top, high], { fill: ink });
+    [name, `${share} %`].forEach((it, k) => sheet.label([it], [begins, ends, top + 2 + (k * (high - 4)) / 2, high / 2 - 2], { fill: ink, isBold: k === 0 }));
     if (edge !== undefined) edges.push({ kind: "edge", name, edge, text: `${text}: drag`, left: right - 5, right: right + 5, top, bottom });
   }
   sheet.bands.push(...edges);
@@ -159,10 +183,8 @@ function causeSeen(sheet) {
   return cause === null || cause.got >= cause.cost ? null : { ...cause, ...first };
 }
 
-/**
- * At the curve: what each of those jobs adds, and how much of it is done before the next one comes; and an arrow to where it jumps so.
- * @param {Sheet} sheet @param {number} y the text's middle @param {number[][]} points the curve @param {(hundredths: number) => number} yOf
- */
+/** At the curve: what each of those jobs adds, and how much of it is done before the next one comes; and an arrow to where it jumps so.
+ * @param {Sheet} sheet @param {number} y the text's middle @param {number[][]} points the curve @param {(hundredths: number) => number} yOf */
 function noteWork(sheet, y, points, yOf) {
   const cause = causeSeen(sheet);
   if (cause === null) return;
@@ -178,7 +200,7 @@ function noteWork(sheet, y, points, yOf) {
   const [x, top] = points.find(([at, to], k) => k > 0 && at > since - 2 && at - points[k - 1][0] < 1 && to < points[k - 1][1] - high) ?? [Infinity, 0];
   const begins = y + 0.8 * size;
   if (x > left + textWidth(text, size, true) || sheet.right - left < LEAST_WIDE || top - begins < size) return;
-  sheet.path([[x - 14, begins], [x - 2, begins + 6], [x, top - 3]], { stroke: "ink", width: 1.2, isArrow: true });
+  sheet.path([[x - 14, begins], [x - 2, begins + 6], [x, top - 3]], { stroke: "ink", width: 1.2, isArrow: true, ends: left + textWidth(text, size, true) });
 }
 
 /** Beside the alarm's line: how many of the table are taken, and by whom. @param {Sheet} sheet */
@@ -191,5 +213,5 @@ export function noteAlarm(sheet) {
   const end = Math.min(sheet.right, sheet.seen(sheet.run.alarms)[1]?.x ?? Infinity);
   if (lines.some((it) => textWidth(it, sheet.size, true) > end - x - 12)) return;
   lines.forEach((it, k) => sheet.text(it, x + 8, (lanes[k].top + lanes[k].bottom) / 2,
-    { isBold: k === 0, fill: k === 0 ? "alarm" : "ink", ground: "track" }));
+    { isBold: k === 0, fill: k === 0 ? "alarm" : "ink", ground: "paper" }));
 }

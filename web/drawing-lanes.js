@@ -19,13 +19,14 @@ import { octal, visible } from "./words.js";
 
 /** How wide a block is at least that is drawn by itself, one with a title, and one that doesn't touch what follows, and how far
  * it stays away; half the width of a deadline's mark, and how far away that is at least, or none is drawn. */
-const [LEAST_BLOCK, LEAST_TOLD, LEAST_APART, APART, MARK, LEAST_MARKED] = [0.8, 3, 3, 0.7, 4, 10];
+const [LEAST_BLOCK, LEAST_TOLD, LEAST_APART, APART, MARK, LEAST_MARKED] = [0.8, 3, 3, 1, 4, 10];
 
-/**
- * Draws the entries of a log that are seen. Of those that are too brief one is drawn in each point, and what is higher.
+/** How round the corners of a block are. */
+export const ROUND = 3;
+
+/** Draws the entries of a log that are seen. Of those that are too brief one is drawn in each point, and what is higher.
  * @param {Sheet} sheet @param {import("./lanes.js").Log} log @param {number[]} lane top and height
- * @param {(entry: number) => Block | null} blockOf null where there is nothing @param {Scale} [scale]
- */
+ * @param {(entry: number) => Block | null} blockOf null where there is nothing @param {Scale} [scale] */
 function drawLog(sheet, log, lane, blockOf, scale = sheet.scale) {
   const keys = log.keys.items;
   const end = sheet.xOf(scale.end);
@@ -53,17 +54,16 @@ function drawBlock(sheet, block, [left, right, top, high]) {
   const { fill, texts = [], look, hatch, told, share = 1, job } = block;
   const tall = share === 1 ? high : Math.max(2, share * high);
   const wide = right - left - (right - left > LEAST_APART && share === 1 ? APART : 0);
-  sheet.rect([left, top + high - tall, wide, tall], fill, right - left < LEAST_TOLD ? undefined : told);
+  const corners = wide > 4 * ROUND && share === 1 ? [ROUND] : [];
+  sheet.rect([left, top + high - tall, wide, tall, ...corners], fill, right - left < LEAST_TOLD ? undefined : told);
   if (hatch !== undefined) sheet.hatch([left, left + wide, top, high], hatch);
   if (job !== undefined) markJob(sheet, job, [left, left + wide, top, high]);
   sheet.label(texts, [left, right, top, high], look);
 }
 
-/**
- * On a job's block: a frame where it is selected; where it was asked for, a mark upwards, and its deadline, downwards: a red
+/** On a job's block: a frame where it is selected; where it was asked for, a mark upwards, and its deadline, downwards: a red
  * one where it is missed, and red from there on.
- * @param {Sheet} sheet @param {import("./lanes.js").Block} job @param {number[]} box
- */
+ * @param {Sheet} sheet @param {import("./lanes.js").Block} job @param {number[]} box */
 function markJob(sheet, { id, at, from, to }, [left, right, top, high]) {
   const { scale, deadlines, view: { selection }, run: { lanes: { jobs } } } = sheet;
   if (selection?.kind === "job" && selection.id === id) sheet.frame([left, right, top - 1, high + 2], { stroke: "ink", width: 2 }, 2);
@@ -108,7 +108,8 @@ function blockOf(sheet, kind, k, entry, scale = sheet.scale) {
   if (job === undefined || job.state === State.RUNS) return { fill: `b${colour}`, texts, look: { fill: `i${colour}` }, told, job };
   const pale = { fill: `p${colour}`, told, job };
   if (job.state === State.SLEEPS) {
-    return { ...pale, texts: [`${name ?? `job ${number}`}, asleep`, ...texts], look: { fill: "pale", ground: pale.fill }, hatch: `b${colour}` };
+    const fill = `h${colour}`;
+    return { ...pale, fill, texts: [`${name ?? `job ${number}`}, asleep`, ...texts], look: { fill: "pale", ground: fill }, hatch: pale.fill };
   }
   const waits = sheet.parts.has("notes") && scale.isTime ? [`${sheet.jobName(at)}, waiting since ${short(scale.placeOfKey(job.from))}`] : [];
   return { ...pale, texts: [...waits, ...texts], look: { fill: "pale" } };
@@ -203,12 +204,10 @@ function pointOf(sheet, { kind, id }) {
   return { x: sheet.xOf(sheet.scale.placeOfKey(born.items[id])), y, name: kind === "job" ? sheet.jobName(at.items[id]) : sheet.taskName(id) };
 }
 
-/**
- * Who asked for a job or a task in a row: the task that came due, or the job that ran; null where it
+/** Who asked for a job or a task in a row: the task that came due, or the job that ran; null where it
  * was an event, a script or a hand.
  * @param {Sheet} sheet @param {number} row @param {number} at where it begins
- * @returns {Selection | null}
- */
+ * @returns {Selection | null} */
 function askerOf({ run }, row, at) {
   const { tasks } = run.lanes;
   if (run.lines[row] !== "tick") {

@@ -8,16 +8,19 @@
 import { paletteOf } from "./colours.js";
 import { tellMark } from "./drawing-words.js";
 
-/** The widths of ASCII's characters from the blank on, in hundredths of the size: DejaVu Sans, which is a broad one. */
+/** The widths of ASCII's characters from the blank on, in hundredths of the size: Arial, and a twentieth more. */
 const WIDTHS = [
-  ...[32, 40, 46, 84, 64, 95, 78, 27, 39, 39, 50, 84, 32, 36, 32, 34, 64, 64, 64, 64, 64, 64, 64, 64],
-  ...[64, 64, 34, 34, 84, 84, 84, 53, 100, 68, 69, 70, 77, 63, 58, 77, 75, 29, 29, 66, 56, 86, 75, 79],
-  ...[60, 79, 69, 63, 61, 73, 68, 99, 69, 61, 69, 39, 34, 39, 84, 50, 50, 61, 63, 55, 63, 62, 35, 63],
-  ...[63, 28, 28, 58, 28, 97, 63, 61, 63, 63, 41, 52, 39, 63, 59, 82, 59, 59, 52, 64, 34, 64, 84],
+  ...[30, 30, 38, 59, 59, 94, 71, 21, 35, 35, 41, 62, 30, 35, 30, 30, 59, 59, 59, 59, 59, 59, 59, 59],
+  ...[59, 59, 30, 30, 62, 62, 62, 59, 107, 71, 71, 76, 76, 71, 65, 82, 76, 30, 53, 71, 59, 88, 76, 82],
+  ...[71, 82, 76, 71, 65, 76, 71, 100, 71, 71, 65, 30, 30, 30, 50, 59, 35, 59, 59, 53, 59, 59, 30, 59],
+  ...[59, 24, 24, 53, 24, 88, 59, 59, 59, 59, 35, 53, 30, 59, 53, 76, 53, 53, 53, 36, 28, 36, 62],
 ];
 
 /** What a letter beyond ASCII takes, and one beyond the first plane or of East Asia; and how much broader bold is. */
-const [OTHER, BROAD, FIRST_BROAD, BOLD] = [78, 130, 0x1100, 1.12];
+const [OTHER, BROAD, FIRST_BROAD, BOLD] = [78, 130, 0x1100, 1.08];
+
+/** No font is loaded: these are on most machines, and none is broader than the table has it. */
+const FONT = "'Segoe UI',Roboto,'Helvetica Neue','Noto Sans','Liberation Sans',Arial,sans-serif";
 
 const ENTITIES = /** @type {Record<string, string>} */ ({ "&": "&amp;", "<": "&lt;", ">": "&gt;", '"': "&quot;", "'": "&#39;" });
 
@@ -40,7 +43,10 @@ function tenth(number) {
 function shapeOf(mark) {
   if (mark.kind === "rect") {
     const [x, y, width, height] = [mark.x, mark.y, mark.width, mark.height].map(tenth);
-    return `M${x} ${y}h${width}v${height}h-${width}z`;
+    const r = mark.round ?? 0;
+    if (r === 0) return `M${x} ${y}h${width}v${height}h-${width}z`;
+    const [wide, high, turn] = [tenth(width - 2 * r), tenth(height - 2 * r), `a${r} ${r} 0 0 1 `];
+    return `M${tenth(x + r)} ${y}h${wide}${turn}${r} ${r}v${high}${turn}-${r} ${r}h-${wide}${turn}-${r}-${r}v-${high}${turn}${r}-${r}z`;
   }
   const points = mark.points.map((it) => it.map(tenth).join(" "));
   if (mark.isHatch) return points.map((it, k) => (k % 2 === 0 ? `M${it}` : `L${it}`)).join("");
@@ -59,25 +65,30 @@ function headOf({ points: [, [a, b], [x, y]], width = 1 }) {
 }
 
 /** Draws a picture, as fine as the screen is. @param {HTMLCanvasElement} canvas @param {Drawn} picture */
-export function paint(canvas, { width, height, theme = "light", marks }) {
+export function paint(canvas, { width, height, theme, marks }) {
   const ratio = globalThis.devicePixelRatio || 1;
   [canvas.width, canvas.height] = [width, height].map((it) => Math.max(1, Math.round(it * ratio)));
   canvas.style.height = `${height}px`;
+  canvas.getContext("2d")?.setTransform(ratio, 0, 0, ratio, 0, 0);
+  addMarks(canvas, marks, theme);
+}
+
+/** Draws marks over what is there. @param {HTMLCanvasElement} canvas @param {Mark[]} marks @param {Drawn["theme"]} [theme] */
+export function addMarks(canvas, marks, theme = "light") {
   const context = canvas.getContext("2d");
   if (context === null) return;
-  context.setTransform(ratio, 0, 0, ratio, 0, 0);
   const palette = paletteOf(theme);
   for (const mark of marks) {
     context.fillStyle = palette[mark.fill ?? "paper"];
-    if (mark.kind === "rect") context.fillRect(mark.x, mark.y, mark.width, mark.height);
+    if (mark.kind === "rect" && mark.round === undefined) context.fillRect(mark.x, mark.y, mark.width, mark.height);
     else if (mark.kind === "text") {
-      context.font = `${mark.isBold ? "bold " : ""}${mark.size}px system-ui, sans-serif`;
+      context.font = `${mark.isBold ? "bold " : ""}${mark.size}px ${FONT}`;
       context.textAlign = mark.anchor === "middle" ? "center" : mark.anchor ?? "start";
       context.fillText(mark.text, mark.x, mark.y);
     } else {
       const shape = new Path2D(shapeOf(mark));
       if (mark.fill !== undefined) context.fill(shape);
-      if (mark.stroke === undefined) continue;
+      if (mark.kind === "rect" || mark.stroke === undefined) continue;
       context.setLineDash(mark.isDashed ? [4, 3] : []);
       [context.strokeStyle, context.lineWidth] = [palette[mark.stroke], mark.width ?? 1];
       context.stroke(shape);
@@ -110,7 +121,8 @@ function styleOf(marks) {
   const names = [...new Set(["paper", ...fills, ...strokes])].sort();
   const rules = (/** @type {Record<string, string>} */ palette) => names.map((name) =>
     (name.startsWith("-") ? `.s${name}{stroke:${palette[name.slice(1)]}}` : `.${name}{fill:${palette[name]}}`)).join("");
-  return "text{font-family:system-ui,sans-serif;white-space:pre}.n{fill:none}.d{stroke-dasharray:4 3}.bold{font-weight:bold}"
+  return `text{font-family:${FONT};white-space:pre}`
+    + ".n{fill:none}.d{stroke-dasharray:4 3}.bold{font-weight:bold}"
     + `.end{text-anchor:end}.middle{text-anchor:middle}\n${rules(paletteOf("light"))}\n`
     + `@media(prefers-color-scheme:dark){${rules(paletteOf("dark"))}}\n`;
 }

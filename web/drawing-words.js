@@ -77,11 +77,7 @@ export function tellMark(sheet, told) {
   return [`${PLACES[kind](k)}, ${requestsOver(sheet.run, log, entry)}`, ...tellWho(sheet, kind, log.ids.items[entry], log.keys.items[entry])];
 }
 
-/**
- * What lies at a point, and what is said of it; nothing beside the bands.
- * @param {Sheet} sheet @param {number} x @param {number} y
- * @returns {import("./drawing.js").Hit | null}
- */
+/** What lies at a point, and what is said of it; nothing beside the bands. @param {Sheet} sheet @param {number} x @param {number} y @returns {import("./drawing.js").Hit | null} */
 export function hitAt(sheet, x, y) {
   const { run, left, right, scale } = sheet;
   const band = sheet.bands.findLast((it) => y >= it.top && y < it.bottom && x >= (it.left ?? left) && x <= (it.right ?? right));

@@ -13,12 +13,12 @@
  *   be thin; `isBare`: it has no text, and all of its width is the run's
  * @typedef {string | { kind: import("./lanes.js").Kind, k: number, entry: number }} Told what a mark is about,
  *   which an SVG has as its title: a text, or an entry of a lane's log
- * @typedef {{ kind: "rect", x: number, y: number, width: number, height: number, fill: string, told?: Told }} Rect
+ * @typedef {{ kind: "rect", x: number, y: number, width: number, height: number, fill: string, round?: number, told?: Told }} Rect
  * @typedef {{ fill?: string, isBold?: boolean, size?: number, anchor?: "start" | "middle" | "end" }} Look
  * @typedef {{ kind: "text", x: number, y: number, text: string, size: number } & Look} Text
  * @typedef {{ kind: "path", points: number[][], fill?: string, stroke?: string, width?: number, isDashed?: boolean,
  *   isArrow?: boolean, isHatch?: boolean, told?: Told }} Path `isHatch`: each two points are a line
- * @typedef {Rect | Text | Path} Mark
+ * @typedef {(Rect | Text | Path) & { ends?: number }} Mark `ends`: what is written on the lanes isn't drawn before that much is seen
  * @typedef {{ value: number, perPoint: number, min: number, max: number, given: (value: number) => any }} Edge what a slider gives
  * @typedef {{ kind: string, k?: number, id?: number, name?: string, row?: number, text?: string, edge?: Edge }} Hit
  * @typedef {Hit & { top: number, bottom: number, left?: number, right?: number }} Band where something can be hit
@@ -35,7 +35,7 @@ import { octal } from "./words.js";
 
 /** A core set's height, the least size of text, the room on the right, how far apart lines of a hatch are, and how much of a
  * block's width its text leaves free, and at least. */
-const [HIGH, LEAST_TEXT, MARGIN, HATCH, BESIDE, LEAST_BESIDE] = [28, 12, 10, 8, 8, 2];
+const [HIGH, LEAST_TEXT, MARGIN, HATCH, BESIDE, LEAST_BESIDE] = [28, 12, 10, 9, 12, 2];
 
 /** What a picture has. The page's has `notes`, too, and `legend` where there is room, and an SVG by itself has `title`. */
 export const PARTS = ["events", "alarms", "work", "sets", "strips", "before", "axis", "budget"];
@@ -43,8 +43,8 @@ const STRIPS = ["areas", "tasks", "stolen", "idle"];
 
 /** What draws each part, from the top to the bottom, and at last over what is there. @type {[string, (sheet: Sheet) => void][]} */
 const LAYERS = [["title", drawTitle], ["events", drawEvents], ["alarms", drawCodes], ["work", drawWork], ["sets", (sheet) => drawLanes(sheet, "set")],
-  ["strips", drawStrips], ["before", drawBefore], ["", drawLines], ["notes", noteAlarm], ["sets", drawSelection],
-  ["axis", drawAxis], ["budget", drawBudget], ["legend", drawLegend]];
+  ["strips", drawStrips], ["notes", noteAlarm], ["", drawLines], ["sets", drawSelection],
+  ["axis", drawAxis], ["budget", drawBudget], ["before", drawBefore], ["legend", drawLegend]];
 
 /** What is drawn on: marks, and what lies where. */
 export class Sheet {
@@ -112,10 +112,8 @@ export class Sheet {
     return rows.slice(first, last + 1).map((row) => ({ row, x: this.xOf(scale.placeOf(row)) }));
   }
 
-  /**
-   * Begins a lane: its name on the left, and what lies there. Returns where its top is.
-   * @param {string} name @param {number} high @param {{ kind: string, k?: number, name?: string }} band
-   */
+  /** Begins a lane: its name on the left, and what lies there. Returns where its top is.
+   * @param {string} name @param {number} high @param {{ kind: string, k?: number, name?: string }} band */
   lane(name, high, band) {
     const top = this.y;
     this.y += high;
@@ -124,20 +122,18 @@ export class Sheet {
     return top;
   }
 
-  /**
-   * Writes on a block: of these texts the first one that fits, in the middle where it just does. Returns whether one does.
-   * @param {string[]} texts @param {number[]} box left, right, top and height @param {Look & { ground?: string }} [look]
-   */
+  /** Writes on a block: of these texts the first one that fits, in the middle where it just does. Returns whether one does.
+   * @param {string[]} texts @param {number[]} box left, right, top and height @param {Look & { ground?: string }} [look] */
   label(texts, [left, right, top, high], look) {
     if (high < this.size + 2) return false;
-    const [text, short] = [BESIDE, LEAST_BESIDE].map((it) => this.fitting(texts, right - left - it));
+    const [text, short] = [BESIDE, LEAST_BESIDE].map((it) => this.fitting(texts, right - left - it, look?.isBold));
     if (text !== undefined) return this.text(text, left + BESIDE / 2, top + high / 2, look);
     return this.text(short ?? "", (left + right) / 2, top + high / 2, { ...look, anchor: "middle" });
   }
 
-  /** The first of these texts that has room. @param {string[]} texts @param {number} room */
-  fitting(texts, room) {
-    return texts.find((it) => textWidth(it, this.size) <= room);
+  /** The first of these texts that has room. @param {string[]} texts @param {number} room @param {boolean} [isBold] */
+  fitting(texts, room, isBold) {
+    return texts.find((it) => textWidth(it, this.size, isBold) <= room);
   }
 
   /** What a job is called that began at this address. @param {number} at */
@@ -151,12 +147,12 @@ export class Sheet {
     return this.names.task({ at: at.items[id], bank: bank.items[id] }) ?? octal(at.items[id], 5);
   }
 
-  /** @param {number[]} box x, y, width and height @param {string} fill @param {Told} [told] @param {number} [layer] */
-  rect([x, y, width, height], fill, told, layer = 1) {
-    this.layers[layer].push({ kind: "rect", x, y, width, height, fill, told });
+  /** @param {number[]} box x, y, width, height and how round its corners are @param {string} fill @param {Told} [told] @param {number} [layer] */
+  rect([x, y, width, height, round], fill, told, layer = 1) {
+    this.layers[layer].push({ kind: "rect", x, y, width, height, fill, told, ...(round === undefined ? {} : { round }) });
   }
 
-  /** @param {number[][]} points @param {Partial<Path>} more @param {number} [layer] */
+  /** @param {number[][]} points @param {Partial<Path> & { ends?: number }} more @param {number} [layer] */
   path(points, more, layer = 1) {
     this.layers[layer].push({ kind: "path", points, ...more });
   }
@@ -170,23 +166,23 @@ export class Sheet {
   hatch([left, right, top, high], stroke) {
     const points = Array.from({ length: Math.floor((right - left) / HATCH) }, (_, k) => left + k * HATCH)
       .flatMap((x) => [[x, top + high], [x + HATCH, top]]);
-    if (points.length > 0) this.path(points, { stroke, width: 1.4, isHatch: true });
+    if (points.length > 0) this.path(points, { stroke, width: 1, isHatch: true });
   }
 
-  /**
-   * Writes a text where its middle is so far down, if it meets no other one and doesn't leave the picture. Returns whether it does.
-   * @param {string} text @param {number} x @param {number} y @param {Look & { ground?: string }} look
-   */
+  /** Writes a text where its middle is so far down, if it meets no other one and doesn't leave the picture. Returns whether it does.
+   * @param {string} text @param {number} x @param {number} y @param {Look & { ground?: string }} look */
   text(text, x, y, { anchor = "start", fill = "ink", isBold = false, size = this.size, ground } = {}) {
     if (this.view.isBare || text === "") return false;
     const width = textWidth(text, size, isBold);
     const left = x - { start: 0, middle: width / 2, end: width }[anchor];
-    const box = [left - 1, left + width + 1, y - 0.55 * size, y + 0.55 * size];
+    const beside = ground === undefined ? 1 : 4;
+    const box = [left - beside, left + width + beside, y - 0.55 * size, y + 0.55 * size];
     const meets = (/** @type {number[]} */ it) => box[0] < it[1] && it[0] < box[1] && box[2] < it[3] && it[2] < box[3];
     if (box[0] < 0 || box[1] > this.width || this.taken.some(meets)) return false;
     this.taken.push(box);
-    if (ground !== undefined) this.rect([left - 2, y - 0.6 * size, width + 4, 1.2 * size], ground, undefined, 2);
-    this.layers[2].push({ kind: "text", x, y: y + 0.36 * size, text, size, fill, isBold, anchor });
+    const late = this.bottom === 0 ? { ends: box[1] } : {};
+    if (ground !== undefined) this.layers[2].push({ kind: "rect", x: left - 4, y: y - 0.7 * size, width: width + 8, height: 1.4 * size, fill: ground, round: 3, ...late });
+    this.layers[2].push({ kind: "text", x, y: y + 0.36 * size, text, size, fill, isBold, anchor, ...late });
     return true;
   }
 

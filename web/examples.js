@@ -3,7 +3,7 @@ export const TOPICS = [
   ["Apollo 11", {
     "landing-1202": ["A landing, and alarm 1202", "Guidance, a display and a radar ask for more time than there is. The tour shows this one."],
     "apollo-11": ["Apollo 11: five alarms", "The alarms of the descent, within two seconds of the times flown. Three of its numbers were chosen to give just that."],
-    landing: ["A landing: when does the first alarm come?", "The radar steals less here. Change the numbers, and find the limit."] }],
+    landing: ["When does the first alarm come?", "The radar steals less here. Change the numbers, and find the limit."] }],
   ["Too much work, or in the wrong order", {
     "jobs-faster-than-they-end": ["Jobs come faster than they end", "Each pass begins two jobs, and only one ends before the next pass."],
     "jobs-faster-with-eight-sets": ["The same, with an eighth core set", "The alarm comes one pass later. Nothing more is gained."],
@@ -15,7 +15,7 @@ export const TOPICS = [
     "task-lists-itself": ["A task that lists itself again", "It is listed once. From then on the timer runs it every three centiseconds."] }],
   ["Restarts", {
     "comes-back-after-an-alarm": ["What survives an alarm", "Jobs without a phase are forgotten. What a group's phase names begins again."],
-    "power-up-with-a-broken-pair": ["Power comes back, and a pair of words is broken", "The phases can't be trusted, so nothing begins again: alarm 1107."] }],
+    "power-up-with-a-broken-pair": ["Power back, with a broken pair", "The phases can't be trusted, so nothing begins again: alarm 1107."] }],
   ["Two workers, many orders", {
     race: ["Two workers race: alarm or not?", "Each begins three jobs with a VAC area and ends three. Of their 924 orders 400 raise the alarm."],
     "race-order": ["The order in which the race is lost", "Six jobs are asked for before any of them ends."] }],

@@ -73,11 +73,7 @@ function optionsOf(words) {
   return found;
 }
 
-/**
- * The picture of a document, and its SVG.
- * @param {string} document
- * @param {{ from?: number, to?: number, width: number, isEight: boolean }} options
- */
+/** The picture of a document, and its SVG. @param {string} document @param {{ from?: number, to?: number, width: number, isEight: boolean }} options */
 export function drawn(document, { from, to, width, isEight }) {
   const read = readBench(document);
   const bench = isEight ? { ...read, sets: 8 } : read;

@@ -449,11 +449,7 @@ export class Run {
     return new Map(this.who.map((it, k) => [it, found[k]]));
   }
 
-  /**
-   * Whether the first rows aren't what the document asks for: something was asked by hand, or the
-   * clock was given other numbers.
-   * @param {number} count
-   */
+  /** Whether the first rows aren't what the document asks for: something was asked by hand, or the clock was given other numbers. @param {number} count */
   isChanged(count) {
     const spelled = (/** @type {any} */ { steal, job, event }) =>
       JSON.stringify([steal, job, event]);

@@ -3,7 +3,7 @@
  * a line over it. What is pointed at is told beside the pointer; a click goes there and shows what asked
  * for it; Ctrl and the wheel, two fingers, keys and a drawn range zoom; edges of the budget are dragged.
  */
-import { paint } from "./drawing-pens.js";
+import { addMarks, paint } from "./drawing-pens.js";
 import { hitAt, summaryOf } from "./drawing-words.js";
 import { PARTS, pictureOf } from "./drawing.js";
 import { assign, attribute, by, fill, make, set } from "./dom.js";
@@ -16,8 +16,8 @@ import { seconds } from "./words.js";
  * it is painted while rows are added, in milliseconds; and how many jobs of a lane are told in words. */
 const [LEAST_DRAWN, PAPER_WIDE, PAINTED_EACH, MOST_TOLD] = [6, 980, 300, 8];
 
-/** What was painted last: nothing is heard of the chart before that. */
-const drawn = { sheet: /** @type {Sheet} */ (/** @type {unknown} */ (null)), time: 0 };
+/** What was painted last: nothing is heard of the chart before that; and what is to be written once the clock is there. */
+const drawn = { sheet: /** @type {Sheet} */ (/** @type {unknown} */ (null)), time: 0, late: /** @type {import("./drawing.js").Mark[]} */ ([]) };
 
 /** The pointers that are down, by number; whether a range was drawn; the edge that is held. */
 const hand = { pointers: new Map(), isDrawn: false, edge: /** @type {any} */ (null), due: 0 };
@@ -27,15 +27,20 @@ export function themeNow() {
   return matchMedia("(prefers-color-scheme: dark)").matches ? "dark" : "light";
 }
 
+/** How high all else is in the tour and for a projector, where a letter is one high. */
+const [TOUR_BESIDE, PROJECTOR_BESIDE] = [30, 25.2];
+
 /** What the tour's picture has: what its words need. */
 const TOURED = ["alarms", "work", "sets", "axis", "budget", "notes"];
 
 /** How large lanes and text are, as the page's text is, and what is drawn. @param {State} now */
-function sizes({ tour, isProjected }) {
+function sizes({ run, tour, isProjected }) {
   const isToured = tour.step > 0;
   if (window.innerWidth <= 640) return { high: 19, text: 12, strips: ["areas"], parts: isToured ? TOURED : [...PARTS, "notes"] };
   const size = parseFloat(getComputedStyle(document.documentElement).fontSize);
-  const lanes = isToured || isProjected ? Math.max(1.87, Math.min(2.8, window.innerHeight / (21 * size))) : 1.87;
+  // (where little else is below it, it fills the window)
+  const below = window.innerHeight / size - (isToured ? TOUR_BESIDE : PROJECTOR_BESIDE);
+  const lanes = isToured || isProjected ? Math.max(1.6, Math.min(3, below / (run.sets + 3.6))) : 1.87;
   const parts = isToured ? TOURED : isProjected ? ["events", ...TOURED, "legend"] : [...PARTS, "notes", "legend"];
   return { high: Math.round(lanes * size), text: Math.round(0.8 * size), parts };
 }
@@ -77,17 +82,15 @@ export function chart(now, before) {
 /** @param {State} now */
 function paintNow(now) {
   const sheet = pictureAs(now, { width: by("lanes-box").clientWidth, before: now.before, theme: themeNow(), ...sizes(now) });
-  paint(by("lanes-chart"), sheet);
-  Object.assign(drawn, { sheet, time: performance.now() });
-  const { scale: { from, to, isWhole }, top, bottom } = sheet;
+  const { scale: { from, to, isWhole }, top, bottom, marks } = sheet;
+  const late = marks.filter(({ ends }) => ends !== undefined && ends > sheet.left);
+  paint(by("lanes-chart"), { ...sheet, marks: marks.filter((it) => !late.includes(it)) });
+  Object.assign(drawn, { sheet, late, time: performance.now() });
   by("chart-box").dataset.seen = `${Math.round(from)}-${Math.round(to)}`;
   assign(by("fit"), { disabled: isWhole });
   assign(by("dismiss"), { hidden: now.before === null });
   for (const id of ["cursor", "range", "future"]) Object.assign(by(id).style, { top: `${top}px`, height: `${bottom - top}px` });
-  const [first] = sheet.bands.filter((it) => it.kind === "set");
-  Object.assign(by("future").style, { left: `${sheet.left}px`, width: `${sheet.right - sheet.left + 2}px` });
-  by("future").style.setProperty("--lanes", `${first.top - top}px`);
-  by("future").style.setProperty("--lane", `${first.bottom - first.top}px`);
+  Object.assign(by("future").style, { left: `${sheet.left}px`, width: `${sheet.right - sheet.left + 4}px` });
   tellLanes(now, sheet);
   drawAt(now);
 }
@@ -110,14 +113,20 @@ function tellLanes({ run: { lanes } }, { scale, names }) {
   rows.forEach((it, k) => set(list.children[k], it));
 }
 
-/** Where the row is, for which nothing is laid out anew, and in the tour's first steps empty lanes over what comes after it. @param {State} now */
+/** Where the row is, for which nothing is laid out anew; in the tour's first steps what comes after it is pale, and what is written there isn't there yet. @param {State} now */
 function drawAt({ at, tour, run }) {
   const { sheet } = drawn;
   const x = sheet.xOf(sheet.scale.placeOf(at));
   assign(by("cursor"), { hidden: x < sheet.left - 1 || x > sheet.right + 1 });
   by("cursor").style.translate = `${x}px`;
   by("cursor").classList.toggle("alarm", run.isAlarm(at));
-  assign(by("future"), { hidden: tour.step === 0 || tour.step > 2 || x > sheet.right });
+  const isVeiled = (tour.step === 1 || tour.step === 2) && x <= sheet.right;
+  const due = drawn.late.filter(({ ends = 0 }) => !isVeiled || ends <= x);
+  if (due.length > 0) addMarks(by("lanes-chart"), due, themeNow());
+  drawn.late = drawn.late.filter((it) => !due.includes(it));
+  assign(by("future"), { hidden: !isVeiled });
+  by("future").style.height = `${(tour.step === 1 ? sheet.height : sheet.bottom) - sheet.top}px`;
+  by("future").style.setProperty("--axis", `${sheet.bottom - sheet.top}px`);
   by("future").style.clipPath = `inset(0 0 0 ${Math.max(0, x - sheet.left)}px)`;
 }
 

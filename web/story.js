@@ -189,6 +189,13 @@ function toTop(now, before) {
   if (document.activeElement?.closest(".ask, .clock, .edit") === null) by("side").scrollTop = 0;
 }
 
+/** What a document says of itself first, up to its first full stop, and what else is told at the beginning. @param {any[][]} lines @returns {[string, any[][]]} */
+function leadOf(lines) {
+  const [[said], ...more] = lines;
+  const [, lead, rest] = (said.isProse && /^([^`]*?[.?!]) +(.+)$/s.exec(said.text)) || [];
+  return lead === undefined ? ["", lines] : [lead, [[{ ...said, text: rest }], ...more]];
+}
+
 /** @param {State} now @param {State} before */
 export function account(now, before) {
   if (!differ(now, before, "run", "count", "at", "isAfter", "hidden", "beside", "tour", "clock")) return;
@@ -199,18 +206,24 @@ export function account(now, before) {
   const { heading, lines, isAlarm } = accountOf(run, shown, names, { about: run.about, count, isHidden: isHidden(now) });
   const late = isAlarm || shown.isAfter || isHidden(now) ? null : lateOf(run, shown, names);
   const isPlain = shown.row > 0 && !isAlarm && late === null && !shown.isAfter && !isHidden(now);
-  assign(by("told"), { hidden: now.tour.step > 0, className: `told${isAlarm || late !== null ? " alarm" : isPlain ? " plain" : ""}` });
+  assign(by("told"), { hidden: now.tour.step > 0, className: `told${isAlarm || late !== null ? " alarm" : isPlain ? " plain" : ""}${shown.row === 0 ? " first" : ""}${by("told").classList.contains("long") ? " long" : ""}` });
   const verdict = isPlain || shown.row === 0 ? changeText(now) : "";
   set(by("told-name"), verdict !== "" ? "What came of it" : late === null ? heading : "A deadline is missed: why");
-  set(by("because"), verdict !== "" ? verdict : late !== null ? begun(late.text) : isAlarm ? begun(`${strawOf(run, shown, names)} ${becauseOf(run, shown, names)}`.trim()) : "");
+  const [lead, rest] = shown.row === 0 && verdict === "" ? leadOf(lines) : ["", lines];
+  set(by("because"), verdict !== "" ? verdict : late !== null ? begun(late.text) : isAlarm ? begun(`${strawOf(run, shown, names)} ${becauseOf(run, shown, names)}`.trim()) : lead);
   buttons("try", triesOf(now, shown));
   assign(by("try"), { hidden: by("try").childElementCount === 0 });
   const isAsked = !["nobody", "the clock"].includes(shown.who) && !shown.isAfter;
   const all = late !== null || (isPlain && (verdict !== "" || now.clock.isRunning)) ? [[standingOf(shown, names)]]
-    : [...lines, ...(isAsked ? [[`Asked by ${shown.who}.`]] : []), ...(isPlain ? [[standingOf(shown, names)]] : [])];
+    : [...rest, ...(isAsked ? [[`Asked by ${shown.who}.`]] : []), ...(isPlain ? [[standingOf(shown, names)]] : [])];
   const key = JSON.stringify(all);
   if (key === drawn) return;
   drawn = key;
+  // (what explains it is seen, and all else is unfolded)
+  const isLong = lead !== "" || isAlarm || (verdict !== "" && shown.row === 0);
+  by("told").classList.toggle("long", isLong);
+  assign(by("telling"), { open: !isLong, hidden: all.length === 0 });
+  set(by("telling-name"), isAlarm ? "Who holds what" : "More");
   fill("account", all.map((line) => make("li", {}, ...line.map(pieceOf))));
   by("account").scrollTop = 0;
 }

@@ -88,11 +88,11 @@ function setBox(shown, k, names, colours) {
   if (job === null) return { name: `set ${k}`, strong: "free", style: "free", isNew };
   const runs = k === 0 && scene.running === job.number;
   const isNamed = scene.next === job.number && scene.next !== scene.running;
-  const stands = runs ? "runs" : job.asleep ? "asleep" : isNamed ? "NEWJOB" : "waits";
+  const stands = runs ? "runs" : job.asleep ? "asleep" : isNamed ? "next to run" : "waits";
   const colour = 1 + colours.of(jobsFrom[k]);
   const name = names.job(job.at);
   return { name: `set ${k}`, strong: name ?? `job ${job.number}`, isNew,
-    style: `${job.asleep ? `asleep s${colour}` : runs ? `j${colour} runs` : `s${colour}`}${comes(shown, job)}`,
+    style: `${job.asleep ? `asleep h${colour}` : runs ? `j${colour} runs` : `s${colour}`}${comes(shown, job)}`,
     more: [`${stands}${job.area > 0 ? `, area ${job.area}` : ""}`,
       name === undefined ? `at ${octal(job.at, 5)}` : `job ${job.number}`, `priority ${names.priority(job.priority)}`] };
 }

@@ -53,10 +53,7 @@ export function hintOf(typed) {
 
 /** The line, with its history and its offers. */
 export class Prompt {
-  /**
-   * @param {(line: string) => void} ask
-   * @param {(typed: string) => string[]} offers
-   */
+  /** @param {(line: string) => void} ask @param {(typed: string) => string[]} offers */
   constructor(ask, offers) {
     this.ask = ask;
     this.offers = offers;
@@ -73,10 +70,7 @@ export class Prompt {
     this.hint(hintOf(""), false);
   }
 
-  /**
-   * @param {string} text
-   * @param {boolean} isWrong
-   */
+  /** @param {string} text @param {boolean} isWrong */
   hint(text, isWrong) {
     by("hint").textContent = text;
     by("hint").classList.toggle("wrong", isWrong);
@@ -107,10 +101,7 @@ export class Prompt {
     this.show([]);
   }
 
-  /**
-   * Chooses an offer, or the one that follows the last.
-   * @param {number} step
-   */
+  /** Chooses an offer, or the one that follows the last. @param {number} step */
   choose(step) {
     const offers = [...by("offers").children];
     this.chosen = (this.chosen + step + offers.length) % offers.length;
@@ -119,10 +110,7 @@ export class Prompt {
     this.field.setAttribute("aria-activedescendant", `offer-${this.chosen}`);
   }
 
-  /**
-   * Takes an offer: where more has to follow, the next is offered.
-   * @param {string} line
-   */
+  /** Takes an offer: where more has to follow, the next is offered. @param {string} line */
   take(line) {
     const wants = FORMS.get(line.split(" ")[0])?.length ?? 0;
     this.field.value = line.split(" ").length <= wants ? `${line} ` : line;
@@ -131,10 +119,7 @@ export class Prompt {
     this.field.focus();
   }
 
-  /**
-   * A line of the history.
-   * @param {number} step
-   */
+  /** A line of the history. @param {number} step */
   recall(step) {
     const to = Math.max(0, Math.min(this.history.length, this.back + step));
     this.back = to;
@@ -162,10 +147,7 @@ export class Prompt {
     this.ask(line);
   }
 
-  /**
-   * Lines that are pasted are asked one after the other, up to the first that is none.
-   * @param {ClipboardEvent} event
-   */
+  /** Lines that are pasted are asked one after the other, up to the first that is none. @param {ClipboardEvent} event */
   paste(event) {
     const text = event.clipboardData?.getData("text/plain").trim() ?? "";
     if (!text.includes("\n") && !areSeveral(text)) return;
@@ -173,10 +155,7 @@ export class Prompt {
     this.askAll(text);
   }
 
-  /**
-   * Asks several lines; none of them, if one spells no request.
-   * @param {string} text
-   */
+  /** Asks several lines; none of them, if one spells no request. @param {string} text */
   askAll(text) {
     try {
       const lines = requestsIn(text);

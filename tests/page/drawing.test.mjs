@@ -158,22 +158,22 @@ test("places are told", () => {
   expect("beside all", hitAt(picture, 5, 1), null);
 });
 
-/** Digits are 0.64 of their size wide. A longer name isn't written where it has no room. */
+/** Digits are 0.59 of their size wide. A longer name isn't written where it has no room. */
 test("texts have room", () => {
-  expect("how wide a code is", textWidth("1202", 12), 30.72);
+  expect("how wide a code is", textWidth("1202", 12), 28.32);
   const named = (/** @type {string} */ name) => pictureOf(runOf(WORK.replace('"WORK"', `"${name}"`)), 40, { width: 400 })
     .marks.filter((it) => it.kind === "text").map((it) => it.text);
   expect("a name that has room", named("WORK").includes("WORK"), true);
   expect("a name that has none", named("W".repeat(90)).includes("W".repeat(90)), false);
 });
 
-/** 320 points are 32 columns of 10 for 31 requests, where a digit of 7.68 has room in the middle; for 40 a column has 7.8, and it needs 2 more. */
+/** 320 points are 32 columns of 10 for 31 requests, where a digit of 7.08 has room in the middle; for 40 a column has 7.8, and it needs 2 more. */
 test("a narrow block has its job's number", () => {
   const texts = (/** @type {number} */ count) => {
     const run = script(["novac 20 02000 00005", "end", ...Array(count - 2).fill("change")]);
-    return pictureOf(run, count, { width: 388, parts: ["sets"] }).marks.flatMap((it) => (it.kind === "text" && it.fill === "i0" ? [[it.text, it.x, it.anchor]] : []));
+    return pictureOf(run, count, { width: 384, parts: ["sets"] }).marks.flatMap((it) => (it.kind === "text" && it.fill === "i0" ? [[it.text, it.x, it.anchor]] : []));
   };
-  expect("31 requests", texts(31), [["1", 73, "middle"]]);
+  expect("31 requests", texts(31), [["1", 69, "middle"]]);
   expect("40 requests", texts(40), []);
 });
 

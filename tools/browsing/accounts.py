@@ -42,7 +42,7 @@ def try_accounts(browser, trial):
     trial.same("NEWJOB", browser.value("document.getElementById('newjob').textContent"), "namesjob 2changed")
     sets = browser.shown()["sets"][:3]
     trial.expect(f"{sets}", sets[0].split("\n") == ["set 0", "job 1", "runs, area 1", "at 04000", "priority 16"]
-                 and sets[1].split("\n")[:5] == ["set 1", "job 2", "NEWJOB", "at 04100", "priority 24"] and sets[2] == "set 2\nfree")
+                 and sets[1].split("\n")[:5] == ["set 1", "job 2", "next to run", "at 04100", "priority 24"] and sets[2] == "set 2\nfree")
     open_words(browser)
     words = browser.value("Array.from(document.querySelectorAll('#words-rows tr'), (it) => it.textContent)")
     for place, text in (11, "20300core set 0, PRIORITY"), (89, "00014NEWJOB"), (131, "00000FAILREG, latest"):

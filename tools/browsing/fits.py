@@ -171,7 +171,7 @@ def try_projector(browser, trial, path):
         browser.press("P")
         painted, seen, cards, is_whole, is_one = browser.value(f"{DRAWN}.then(() => {LARGE})", True)
         trial.expect(f"{mark} for a projector: texts of {painted} and {seen} points; {cards}; {is_whole}, {is_one}",
-                     min(painted, seen) >= 18 and cards == "story,clock,Stolen time,When the first alarm comes,chart-box" and is_whole and is_one)
+                     min(painted, seen) >= 18 and cards == "story,clock,Stolen time,When the first alarm comes,chart-box,player" and is_whole and is_one)
         trial.expect("no way out is seen", browser.value(f"{SHOWN}('projector')") and browser.text("projector") == "P or Esc: back")
         browser.press("Escape" if mark == "#apollo-11" else "P")
         trial.expect("the projector stays", browser.value(f"{SHOWN}('examples') && !{SHOWN}('projector')"))

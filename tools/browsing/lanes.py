@@ -50,8 +50,8 @@ POINT = """((x, y) => {
   return data[3] > 0 ? Array.from(data.slice(0, 3)) : getComputedStyle(document.getElementById('chart-box')).backgroundColor.match(/[0-9]+/g).map(Number);
 })"""
 SEEN = """(() => { const [from, to] = document.getElementById('chart-box').dataset.seen.split('-').map(Number); return [from, to - from]; })()"""
-BRIGHT = [(0, 114, 178), (230, 159, 0), (0, 158, 115), (204, 121, 167)]
-PALE = [(166, 206, 228), (246, 221, 166), (166, 221, 206), (237, 208, 224)]
+BRIGHT = [(59, 99, 173), (221, 154, 51)]
+PALE = [(184, 199, 225)]
 
 
 class Chart:
@@ -195,25 +195,28 @@ EDGE = """((wanted, left, right) => {
     return document.getElementById('block').textContent;
   };
   let y = top + height;
-  while (y > top && !/^SERVICER [0-9]+ %$/.test(told(left + 20, y))) y -= 3;
+  while (y > top && !/^SERVICER [0-9]+ % of the time/.test(told(left + 20, y))) y -= 3;
   for (let x = left; x < right; x += 2) if (told(x, y).startsWith(wanted) && canvas.style.cursor === 'ew-resize') return [x + 4, y - 6];
   return null;
 })"""
 
 
 def try_edges(browser, trial):
-    """The edges of the budget are dragged as the sliders are: a job's cost, and the time that is stolen."""
+    """The edges of the budget are dragged as the sliders are: a job's cost, and the time that is stolen. The budget stays where it is."""
     open_landing(browser)
     sliders = "['SERVICER needs', 'Stolen time'].map((it) => Number(document.querySelector(`#sliders input[aria-label='${it}']`).value))"
     for k, (wanted, by) in enumerate((("SERVICER", -60), ("stolen", -30))):
         before = browser.value(sliders)
         left, right, *_ = browser.value(PLOT)
         x, y = browser.value(f"{EDGE}({json.dumps(wanted)}, {left}, {right})")
+        below = y - browser.value(PLOT)[2]
         for kind, to in ("mousePressed", x), ("mouseMoved", x + by / 2), ("mouseMoved", x + by), ("mouseReleased", x + by):
             browser.call("Input.dispatchMouseEvent", type=kind, x=to, y=y, button="left", buttons=1, clickCount=1)
             browser.value(DRAWN, True)
         filled(browser)
         after = browser.value(sliders)
+        moved = browser.value(f"{EDGE}({json.dumps(wanted)}, {left}, {right})")[1] - browser.value(PLOT)[2] - below
+        trial.expect(f"the budget moves by {moved} as {wanted} is dragged", abs(moved) <= 3)
         trial.expect(f"the edge of {wanted}: {before} to {after}", after[k] < before[k] and after[1 - k] == before[1 - k])
 
 
