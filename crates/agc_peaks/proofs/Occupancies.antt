@@ -17,11 +17,11 @@ use Rattle.agc_machine.specs.declared.answer.Refusal.{Refusal}
 use Rattle.agc_machine.specs.Image.{IsImage}
 use Rattle.agc_machine.specs.Machines.{Machined, after, answer_of, begins_with, places_of, plain_of, refusal_of, served, starts_over, stepped}
 use Rattle.agc_machine.specs.Moments.{Acting, IsMoment}
-use Rattle.agc_scene.specs.Events.{leaves, scene_at, scene_now}
-use Rattle.agc_scene.specs.Reading.{IsServed, scene_in}
-use Rattle.agc_scene.specs.Scenes.{Scene, scene_of}
-use Rattle.agc_scene.proofs.Scenes.{scene_is}
-use Rattle.agc_scene.proofs.Showing.{scene_now_is, shown_kept, shown_on}
+use Rattle.agc_run.specs.Events.{leaves, scene_at, scene_now}
+use Rattle.agc_run.specs.Reading.{IsServed, scene_in}
+use Rattle.agc_run.specs.Scenes.{Scene, scene_of}
+use Rattle.agc_run.proofs.Scenes.{scene_is}
+use Rattle.agc_run.proofs.Showing.{scene_now_is, shown_kept, shown_on}
 use Rattle.agc_peaks.specs.Occupancies.{occupancy_of, owns_area}
 use Rattle.agc_peaks.specs.Runs.{occupancy_now}
 use Rattle.agc_peaks.specs.declared.occupancy.Occupancy.{Occupancy}

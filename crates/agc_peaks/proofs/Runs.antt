@@ -20,7 +20,7 @@ use Rattle.agc_run.specs.Subjects.{IsOf, machine_of, own_requests, requests_of}
 use Rattle.agc_run.specs.declared.pending_requests.Call.{Call}
 use Rattle.agc_run.specs.declared.subject.Subject.{Subject}
 use Rattle.agc_run.proofs.Following.{its_requests}
-use Rattle.agc_scene.specs.Events.{scene_now}
+use Rattle.agc_run.specs.Events.{scene_now}
 use Rattle.agc_peaks.specs.Boundaries.{boundary_of}
 use Rattle.agc_peaks.specs.Eras.{IsEra, counted}
 use Rattle.agc_peaks.specs.Occupancies.{occupancy_of}

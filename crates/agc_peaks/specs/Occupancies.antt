@@ -2,7 +2,7 @@
 use Rattle.std.specs.Prelude.{nat_lt, Bool, false, Option, Some, None, length, is_some}
 use Rattle.std.specs.List.{count_by}
 use Rattle.agc_exec.specs.declared.seats.Seat.{Seat}
-use Rattle.agc_scene.specs.Scenes.{Scene}
+use Rattle.agc_run.specs.Scenes.{Scene}
 use Rattle.agc_peaks.specs.declared.occupancy.Occupancy.{Occupancy}
 
 -- whether the job in a core set owns an area

@@ -8,7 +8,7 @@ use Rattle.agc_plan.specs.declared.request.Request.{Request}
 use Rattle.agc_plan.specs.Steps.{is_tick}
 use Rattle.agc_machine.specs.declared.answer.Refusal.{Refusal}
 use Rattle.agc_machine.specs.Machines.{Machined, after, answer_of}
-use Rattle.agc_scene.specs.Events.{scene_at}
+use Rattle.agc_run.specs.Events.{scene_at}
 use Rattle.agc_peaks.specs.Boundaries.{boundary_of}
 use Rattle.agc_peaks.specs.Eras.{IsEra, counted}
 use Rattle.agc_peaks.specs.Occupancies.{occupancy_of}

@@ -3,7 +3,7 @@ ghost use Rattle.std.specs.Prelude.{◌≡◌, if◌then◌else◌};
 ghost use Rattle.agc_word.specs.Layout.{IsSized};
 ghost use Rattle.agc_exec.specs.Image.{IsLawfulWords};
 ghost use Rattle.agc_wait.specs.Table.{IsLawfulTable};
-ghost use Rattle.agc_scene.specs.Reading.{scene_in};
+ghost use Rattle.agc_run.specs.Reading.{scene_in};
 ghost use Rattle.agc_peaks.specs.Occupancies.{occupancy_of, owns_area};
 
 use agc_exec::{Seat, job_at, running};

@@ -1,7 +1,7 @@
 //! The machine of a play, and what the player sees of it.
 ghost use Rattle.std.specs.Prelude.{◌≡◌, IfOk};
 ghost use Rattle.std.specs.List.{fold};
-ghost use Rattle.agc_scene.specs.Events.{watched, watching_from};
+ghost use Rattle.agc_run.specs.Events.{watched, watching_from};
 ghost use Rattle.agc_session.specs.Runs.{bench_machine};
 
 use agc_document::Bench;
@@ -9,8 +9,7 @@ use agc_exec::Seat;
 use agc_machine::{Machine, Refusal};
 use agc_phase::code_word;
 use agc_plan::{Reply, Request};
-use agc_run::{ObservedRun, PendingRequests, Source};
-use agc_scene::{Event, ObservedMachine, Scene};
+use agc_run::{Event, ObservedMachine, ObservedRun, PendingRequests, Scene, Source};
 use agc_session::{RunFault, machine_of};
 use agc_table::TableForm;
 use agc_text::Field::{Number, Octal, Priority, Text};
@@ -52,7 +51,7 @@ pub(crate) struct Player {
 }
 
 impl Model for Player {
-    ghost use Rattle.agc_scene.specs.Events.{Watching};
+    ghost use Rattle.agc_run.specs.Events.{Watching};
 
     ghost Value = { Watching };
 

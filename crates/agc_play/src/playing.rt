@@ -104,7 +104,7 @@ impl<'a> Model for PlaySession<'a> {
     ghost use Rattle.std.specs.Prelude.{◌≡◌, List};
     ghost use Rattle.std.specs.List.{fold};
     ghost use Rattle.agc_plan.specs.declared.request.Request.{Request};
-    ghost use Rattle.agc_scene.specs.Events.{watched, watching_from};
+    ghost use Rattle.agc_run.specs.Events.{watched, watching_from};
     ghost use Rattle.agc_session.specs.Runs.{bench_machine};
 
     ghost Value = { List Request };

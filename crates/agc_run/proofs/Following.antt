@@ -3,7 +3,7 @@ use Rattle.std.proofs.Common.{◌≡◌, List, refl, ap, ◌∙◌}
 use Rattle.std.specs.List.{fold}
 use Rattle.agc_machine.specs.Machines.{Machined, after}
 use Rattle.agc_plan.specs.declared.request.Request.{Request}
-use Rattle.agc_scene.specs.Events.{Watching, watched, watching_from}
+use Rattle.agc_run.specs.Events.{Watching, watched, watching_from}
 use Rattle.agc_run.specs.Runs.{Pending, all_to_ask, requests_in, script_asks, to_ask}
 use Rattle.agc_run.specs.Subjects.{IsOf, requests_of}
 use Rattle.agc_run.specs.declared.subject.Subject.{Subject}

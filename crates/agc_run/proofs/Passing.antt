@@ -10,7 +10,7 @@ use Rattle.agc_machine.specs.declared.answer.Refusal.{Refusal}
 use Rattle.agc_plan.specs.declared.request.Request.TheVariants.{Tick}
 use Rattle.agc_plan.specs.Jobs.{Jobs}
 use Rattle.agc_plan.specs.declared.request.Request.{Request}
-use Rattle.agc_machine.specs.Machines.{Machined, after, answer_of, plain_of}
+use Rattle.agc_machine.specs.Machines.{Machined, after, alarm_with, answer_of, plain_of}
 use Rattle.agc_clock.specs.declared.alarms.Alarms.{Alarms}
 use Rattle.agc_clock.specs.declared.asked.Asked.{Asked as TimeAsked}
 use Rattle.agc_clock.specs.declared.timetable.Cost.{Cost}
@@ -27,7 +27,7 @@ use Rattle.agc_clock.proofs.Scenarios.{no_tick_is_left}
 use Rattle.agc_scenario.specs.Scenarios.{Timed, TimedEvent, comes_by, counted_by, event_of, first_of, last_time_of, schedule_of, seed_of}
 use Rattle.agc_session.specs.declared.source.Source.{Source as BenchSource}
 use Rattle.agc_run.specs.declared.pending_requests.Call.{Call}
-use Rattle.agc_run.specs.Going.{Going, alarm_with, alarms_after, centisecond_lived, going_at, lived_at, scenario_run, time_lived}
+use Rattle.agc_run.specs.Going.{Going, alarms_after, centisecond_lived, going_at, lived_at, scenario_run, time_lived}
 use Rattle.agc_run.specs.Runs.{Pending, Pulls, Requested, alarms_with, all_to_ask, asks_after, by_source, clock_after, clock_asks, in_time, left_now, now_lived, requests_in, rest, time_asks}
 
 -- a request of a run, where this was counted before it

@@ -1,12 +1,8 @@
 -- A scenario that runs on a machine, centisecond by centisecond: each passes by the timetable as
 -- the alarms before it have it.
-use Rattle.std.specs.Prelude.{ℕ, List, Option, Some, None, Result, Ok, Err}
+use Rattle.std.specs.Prelude.{ℕ, List, Option, Some, None}
 use Rattle.std.specs.List.{fold, range_with_len}
-use Rattle.agc_plan.specs.Steps.{alarm_of}
-use Rattle.agc_plan.specs.declared.reply.Alarm.{Alarm}
-use Rattle.agc_plan.specs.declared.reply.Reply.{Reply}
-use Rattle.agc_machine.specs.declared.answer.Refusal.{Refusal}
-use Rattle.agc_machine.specs.Machines.{Machined, answer_of}
+use Rattle.agc_machine.specs.Machines.{Machined, alarm_with, answer_of}
 use Rattle.agc_clock.specs.declared.alarms.Alarms.{Alarms}
 use Rattle.agc_clock.specs.declared.asked.Asked.{Asked}
 use Rattle.agc_clock.specs.declared.timetable.Cost.{Cost}
@@ -20,11 +16,6 @@ use Rattle.agc_scenario.specs.Scenarios.{Timed, schedule_of, seed_of}
 pub record Going : Type 0 where
   pub at : Standing Machined
   pub alarms : Alarms
-
--- the alarm of an answer, if it has one
-abbrev pub alarm_with : Result Reply Refusal → Option Alarm
-alarm_with (Ok reply) = alarm_of reply
-alarm_with (Err refusal) = None
 
 -- the alarms when a machine was asked for this at a time, if it was asked for anything
 abbrev pub alarms_after : ℕ → Machined → Option Asked → Alarms → Alarms

@@ -5,7 +5,7 @@ use Rattle.std.specs.List.{flat_map, fold}
 use Rattle.agc_plan.specs.declared.reply.Alarm.{Alarm}
 use Rattle.agc_plan.specs.declared.request.Request.{Request}
 use Rattle.agc_plan.specs.Jobs.{Jobs}
-use Rattle.agc_machine.specs.Machines.{Machined, after, answer_of, plain_of}
+use Rattle.agc_machine.specs.Machines.{Machined, after, alarm_with, answer_of, plain_of}
 use Rattle.agc_machine.specs.Moments.{Acting}
 use Rattle.agc_clock.specs.declared.alarms.Alarms.{Alarms}
 use Rattle.agc_clock.specs.declared.asked.Asked.{Asked as TimeAsked}
@@ -18,13 +18,13 @@ use Rattle.agc_clock.specs.Instants.{Instant, Works}
 use Rattle.agc_clock.specs.Runs.{Standing, begins_with}
 use Rattle.agc_clock.specs.Timetables.{Schedule}
 use Rattle.agc_scenario.specs.Scenarios.{Timed, schedule_of}
-use Rattle.agc_scene.specs.declared.event.Event.{Event}
-use Rattle.agc_scene.specs.Events.{Watching, event_of, watched}
+use Rattle.agc_run.specs.declared.event.Event.{Event}
+use Rattle.agc_run.specs.Events.{Watching, event_of, watched}
 use Rattle.agc_document.specs.Benches.{Benched}
 use Rattle.agc_session.specs.Pieces.{Piece, Walked, bench_pieces, to_come as pieces_to_come}
 use Rattle.agc_session.specs.declared.source.Source.{Source as BenchSource}
 use Rattle.agc_session.specs.declared.source.Source.TheVariants.{Script}
-use Rattle.agc_run.specs.Going.{Going, alarm_with, lived_at, scenario_run, time_lived}
+use Rattle.agc_run.specs.Going.{Going, lived_at, scenario_run, time_lived}
 use Rattle.agc_run.specs.declared.pending_requests.Call.{Call}
 use Rattle.agc_run.specs.declared.pending_requests.Source.{Source}
 use Rattle.agc_run.specs.declared.pending_requests.Source.TheVariants.{Bench, Time}

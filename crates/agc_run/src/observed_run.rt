@@ -1,12 +1,13 @@
 // A run whose machine is watched: events are pulled from it.
 ghost use Rattle.std.specs.Prelude.{◌≡◌, option_map};
-ghost use Rattle.agc_scene.specs.Events.{watching_from};
+ghost use Rattle.agc_run.specs.Events.{watching_from};
 ghost use Rattle.agc_run.specs.Runs.{Comes};
 
+use crate::event::Event;
+use crate::observed_machine::ObservedMachine;
 use crate::pending_requests::{PendingRequests, Source};
 use agc_clock::Clock;
 use agc_machine::Machine;
-use agc_scene::{Event, ObservedMachine};
 use std::marker::Model;
 
 /// A run whose machine is watched.

@@ -1,18 +1,18 @@
 // The pending requests of a run.
 ghost use Rattle.std.specs.Prelude.{◌≡◌, [], option_map};
 ghost use Rattle.agc_exec.specs.Image.{IsLawfulWords, jobs_in};
-ghost use Rattle.agc_machine.specs.Machines.{Machined, plain_of};
+ghost use Rattle.agc_machine.specs.Machines.{Machined, alarm_with, plain_of};
 ghost use Rattle.agc_clock.specs.Elapsing.{Elapses};
 ghost use Rattle.agc_clock.specs.Runs.{begins_with};
-ghost use Rattle.agc_run.specs.Going.{alarm_with};
 ghost use Rattle.agc_run.specs.Runs.{Pulls, alarms_with, all_to_ask, bench_asks, clock_after};
 ghost use Rattle.agc_run.specs.Runs.{clock_asks, elapsed_in, rest, script_asks};
 
+use crate::event::alarm_with;
 use crate::requests::Requests;
 use agc_clock::{Alarms, Clock, Elapsed};
 use agc_document::Bench;
 use agc_machine::Refusal;
-use agc_plan::{Alarm, Reply, Request};
+use agc_plan::{Reply, Request};
 use agc_scenario::{CurrentTimetable, Timing};
 use agc_word::Erasable;
 use std::marker::Model;
@@ -63,16 +63,6 @@ fn begins_with(answer: &Result<Reply, Refusal>) -> bool
     match answer {
         Ok(reply) => reply.begins(),
         Err(_refusal) => false,
-    }
-}
-
-/// The alarm of an answer, if it has one.
-fn alarm_with(answer: &Result<Reply, Refusal>) -> Option<Alarm>
-    ensures { result ≡ alarm_with answer.now }
-{
-    match answer {
-        Ok(reply) => reply.alarm(),
-        Err(_refusal) => None,
     }
 }
 

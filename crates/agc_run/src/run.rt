@@ -7,11 +7,11 @@ ghost use Rattle.agc_machine.specs.Moments.{IsMoment};
 ghost use Rattle.agc_plan.specs.Steps.{begins};
 ghost use Rattle.agc_run.specs.Runs.{Pulls, asks_after, elapsed_in};
 
+use crate::event::begins_with;
 use crate::pending_requests::{Call, PendingRequests};
 use agc_clock::{Clock, Elapsed};
 use agc_machine::{Machine, Moment, Refusal};
 use agc_plan::{Fired, Reply, Request};
-use agc_scene::begins_with;
 use agc_word::Erasable;
 use std::marker::Model;
 

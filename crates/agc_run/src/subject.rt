@@ -1,7 +1,7 @@
 // The subject of a run.
 ghost use Rattle.std.specs.Prelude.{◌≡◌, option_map, IfOk, IfErr};
 ghost use Rattle.agc_run.specs.Subjects.{IsOf, bench_of, machine_of, timing_of};
-ghost use Rattle.agc_scene.specs.Events.{watching_from};
+ghost use Rattle.agc_run.specs.Events.{watching_from};
 
 use crate::observed_run::ObservedRun;
 use crate::pending_requests::PendingRequests;

@@ -17,8 +17,8 @@ use Rattle.agc_machine.specs.declared.answer.Refusal.{Refusal}
 use Rattle.agc_machine.specs.declared.answer.Refusal.TheVariants as refusal
 use Rattle.agc_machine.specs.Machines.{Machined, after, plain_of, places_of, refusal_of, result_of, served, stepped}
 use Rattle.agc_machine.proofs.Serving.{placed_plain, reached_more}
-use Rattle.agc_scene.specs.Events.{Watching, event_of, scene_now}
-use Rattle.agc_scene.specs.Scenes.{Scene, scene_of}
+use Rattle.agc_run.specs.Events.{Watching, event_of, scene_now}
+use Rattle.agc_run.specs.Scenes.{Scene, scene_of}
 use Rattle.agc_trace.specs.declared.brief.Quiet.{Quiet}
 use Rattle.agc_trace.specs.declared.brief.Quiet.TheVariants.{Spent, LogFull}
 use Rattle.agc_trace.specs.Brief.{later_by, quiet_answer, quiet_of, quiet_reply, quiet_run, time_of}

@@ -5,7 +5,7 @@ use Rattle.std.proofs.lemmas.Bool.{and_parts, cases_Bool, eqb-true}
 use Rattle.std.proofs.lemmas.List.{set-get_or}
 use Rattle.agc_plan.specs.Jobs.{Job, Jobs, job_in, with_job, with_changed, with_priority}
 use Rattle.agc_exec.specs.declared.seats.Seat.{Seat}
-use Rattle.agc_scene.specs.Scenes.{Scene, seat_of, seated}
+use Rattle.agc_run.specs.Scenes.{Scene, seat_of, seated}
 use Rattle.agc_trace.specs.declared.brief.Quiet.{Quiet}
 use Rattle.agc_trace.specs.Brief.{has_priority, is_of_priority, is_running}
 

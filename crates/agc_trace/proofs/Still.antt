@@ -21,7 +21,7 @@ use Rattle.agc_plan.specs.Seats.{places_acted}
 use Rattle.agc_plan.specs.Groups.{seated_through}
 use Rattle.agc_plan.specs.Steps.{Plain, Did, Fires, with_listed, done, all_done, those_done, dispatched_work, later_work, unless_alarm, fire_first, fire, tick_fires, acted, fired_in}
 use Rattle.agc_plan.proofs.Searches.{option_cases}
-use Rattle.agc_scene.specs.Scenes.{Scene, scene_of, seat_of}
+use Rattle.agc_run.specs.Scenes.{Scene, scene_of, seat_of}
 use Rattle.agc_trace.specs.declared.brief.Quiet.{Quiet}
 use Rattle.agc_trace.specs.declared.brief.Quiet.TheVariants.{Tick, NoSleeper, NoJob, Change, Prio}
 use Rattle.agc_trace.specs.Brief.{has_priority, is_running, quiet_tick, quiet_reply, quiet_if_runs, quiet_run, time_of, later_by}

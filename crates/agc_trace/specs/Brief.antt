@@ -12,8 +12,8 @@ use Rattle.agc_plan.specs.declared.reply.Reply.TheVariants as reply
 use Rattle.agc_plan.specs.Steps.{Plain}
 use Rattle.agc_machine.specs.declared.answer.Refusal.{Refusal}
 use Rattle.agc_machine.specs.declared.answer.Refusal.TheVariants as refusal
-use Rattle.agc_scene.specs.declared.event.Event.{Event}
-use Rattle.agc_scene.specs.Scenes.{Scene}
+use Rattle.agc_run.specs.declared.event.Event.{Event}
+use Rattle.agc_run.specs.Scenes.{Scene}
 use Rattle.agc_trace.specs.declared.brief.Quiet.{Quiet}
 use Rattle.agc_trace.specs.declared.brief.Quiet.TheVariants.{Tick, NoSleeper, NoJob, Change, Prio}
 use Rattle.agc_trace.specs.declared.brief.Quiet.TheVariants.{Spent, LogFull}

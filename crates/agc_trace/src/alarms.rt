@@ -4,7 +4,7 @@ use crate::columns::Columns;
 use crate::page::Page;
 use agc_exec::Seat;
 use agc_plan::{Alarm, Plan, Task, action_request};
-use agc_scene::{Event, Scene, Since};
+use agc_run::{Event, Scene, Since};
 use agc_text::Field::{Number, Priority, Text};
 use agc_text::{Buffer, alarm_code, request_text};
 

@@ -6,7 +6,7 @@ ghost use Rattle.agc_trace.specs.Brief.{is_of_priority, is_running};
 use agc_exec::Seat;
 use agc_machine::Refusal;
 use agc_plan::{Alarm, Fired, JobNo, Priority, Reply, Request};
-use agc_scene::{Event, Scene};
+use agc_run::{Event, Scene};
 
 /// A kind of request after which nothing has changed but the time.
 #[derive(Clone, Copy, PartialEq, Eq)]

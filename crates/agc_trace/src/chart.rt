@@ -4,8 +4,7 @@ use crate::names::ItemKind;
 use crate::page::Page;
 use agc_clock::Clock;
 use agc_plan::Request;
-use agc_run::Source;
-use agc_scene::{Event, Scene};
+use agc_run::{Event, Scene, Source};
 use agc_text::Field::{Json, Number, Octal, Priority, Seconds, Text};
 use agc_text::{Buffer, alarm_code, request_text};
 

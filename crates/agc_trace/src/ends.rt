@@ -3,7 +3,7 @@
 use crate::page::{Page, TraceEntry};
 use agc_document::Bench;
 use agc_phase::recover;
-use agc_scene::Scene;
+use agc_run::Scene;
 use agc_session::{asks_nothing, line_name};
 use agc_text::Buffer;
 use agc_text::Field::{Number, Octal, Text};

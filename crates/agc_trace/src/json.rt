@@ -3,7 +3,7 @@ use crate::columns::Columns;
 use crate::names::ItemKind;
 use agc_exec::Seat;
 use agc_plan::Task;
-use agc_scene::{Event, Scene, Since};
+use agc_run::{Event, Scene, Since};
 use agc_table::{Row, left};
 use agc_text::Field::{Number, Octal, Priority, Seconds, Text};
 

@@ -1,6 +1,6 @@
 // The lanes of a chart: what each core set and each VAC area holds, and the tasks that wait.
 use agc_plan::Task;
-use agc_scene::Scene;
+use agc_run::Scene;
 
 /// The number of lanes: eight core sets, five areas and nine tasks.
 pub(crate) const LANES: usize = 22;

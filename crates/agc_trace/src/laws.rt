@@ -3,7 +3,7 @@
 ghost use Rattle.std.specs.Prelude.{◌≡◌, Some};
 ghost use Rattle.agc_plan.specs.declared.request.Request.{Request};
 ghost use Rattle.agc_machine.specs.Machines.{after, plain_of, places_of};
-ghost use Rattle.agc_scene.specs.Events.{Watching, event_of, scene_now};
+ghost use Rattle.agc_run.specs.Events.{Watching, event_of, scene_now};
 ghost use Rattle.agc_trace.specs.declared.brief.Quiet.{Quiet};
 ghost use Rattle.agc_trace.specs.Brief.{later_by, quiet_of, time_of};
 

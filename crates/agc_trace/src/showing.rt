@@ -2,11 +2,10 @@
 ghost use Rattle.std.specs.Prelude.{◌≡◌, OnOk};
 ghost use Rattle.std.specs.List.{fold};
 ghost use Rattle.agc_run.specs.Runs.{to_ask};
-ghost use Rattle.agc_scene.specs.Events.{watched};
+ghost use Rattle.agc_run.specs.Events.{watched};
 ghost use Rattle.agc_session.specs.Shown.{EndsIn};
 
-use agc_run::{ObservedRun, Source};
-use agc_scene::{Event, ObservedMachine};
+use agc_run::{Event, ObservedMachine, ObservedRun, Source};
 use agc_session::{Progress, RunFault};
 use agc_text::Output;
 use std::io::Write;

@@ -1,15 +1,14 @@
 // Tracing a run.
 ghost use Rattle.std.specs.List.{fold};
 ghost use Rattle.agc_run.specs.Subjects.{own_requests, machine_of};
-ghost use Rattle.agc_scene.specs.Events.{watched, watching_from};
+ghost use Rattle.agc_run.specs.Events.{watched, watching_from};
 ghost use Rattle.agc_session.specs.Shown.{EndsIn};
 
 use crate::columns::Columns;
 use crate::showing::{Shows, show};
 use crate::trace_rows::{Rows, TraceOptions};
 use agc_document::Bench;
-use agc_run::{ObservedRun, Source, Subject};
-use agc_scene::{Event, ObservedMachine};
+use agc_run::{Event, ObservedMachine, ObservedRun, Source, Subject};
 use agc_session::{Progress, RunFault, count_requests};
 use agc_text::Output;
 use std::alloc::{AllocError, Global};

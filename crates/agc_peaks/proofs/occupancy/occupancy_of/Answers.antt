@@ -2,7 +2,7 @@ use Rattle.std.proofs.Common.{◌≤◌, Bool, cond, length, ap, ◌∙◌, arit
 use Rattle.std.specs.Prelude.{is_some}
 use Rattle.agc_exec.specs.Seats.{seats_in}
 use Rattle.agc_exec.proofs.Seating.{length-seats}
-use Rattle.agc_scene.specs.Reading.{scene_in}
+use Rattle.agc_run.specs.Reading.{scene_in}
 use Rattle.agc_peaks.specs.Occupancies.{owns_area}
 use Rattle.agc_peaks.proofs.Occupancies.{all_counted, counted_on, few_on, tables_are}
 use Rattle.agc_peaks.proofs.occupancy.occupancy_of.Goals as goal

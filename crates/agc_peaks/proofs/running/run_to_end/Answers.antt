@@ -5,7 +5,7 @@ use Rattle.agc_machine.specs.Machines.{Machined, after, answer_of}
 use Rattle.agc_machine.specs.Moments.{IsMoment}
 use Rattle.agc_plan.specs.Steps.{begins}
 use Rattle.agc_run.specs.Runs.{Pending, asks_after, to_ask}
-use Rattle.agc_scene.specs.Reading.{IsServed}
+use Rattle.agc_run.specs.Reading.{IsServed}
 use Rattle.agc_peaks.specs.Runs.{AreStatistics, Entry, entries, entry_of, occupancy_now}
 use Rattle.agc_peaks.specs.Steps.{IsAnswered, IsOneMore}
 use Rattle.agc_peaks.proofs.Occupancies.{left_is}

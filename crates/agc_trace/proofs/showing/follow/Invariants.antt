@@ -1,7 +1,7 @@
 use Rattle.std.proofs.Common.{◌≡◌, length}
 use Rattle.std.specs.List.{fold}
 use Rattle.agc_run.specs.Runs.{to_ask}
-use Rattle.agc_scene.specs.Events.{watched}
+use Rattle.agc_run.specs.Events.{watched}
 use Rattle.agc_trace.proofs.showing.follow.Given as goal
 
 abbrev pub invariant-loop-source : goal.invariant-loop-source

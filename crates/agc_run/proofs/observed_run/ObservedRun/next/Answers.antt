@@ -2,8 +2,8 @@ use Rattle.std.proofs.Common.{◌≡◌, ◌∙◌, ◌∷◌, List, Option, Non
 use Rattle.agc_exec.specs.Image.{jobs_in}
 use Rattle.agc_machine.specs.Machines.{Machined, after, answer_of, plain_of}
 use Rattle.agc_plan.specs.declared.request.Request.{Request}
-use Rattle.agc_scene.specs.Events.{Watching, event_of, watched}
-use Rattle.agc_scene.specs.declared.event.Event.{Event}
+use Rattle.agc_run.specs.Events.{Watching, event_of, watched}
+use Rattle.agc_run.specs.declared.event.Event.{Event}
 use Rattle.agc_run.specs.Runs.{Pulls, WatchingRun, all_to_ask, asks_after}
 use Rattle.agc_run.specs.declared.pending_requests.Call.{Call}
 use Rattle.agc_run.proofs.Passing.{told_all}

@@ -1,5 +1,5 @@
 use Rattle.std.proofs.Common.{◌∙◌, ap}
-use Rattle.agc_scene.specs.Events.{watching_from}
+use Rattle.agc_run.specs.Events.{watching_from}
 use Rattle.agc_run.proofs.subject.Subject.watched.Goals as goal
 
 pub returns-clause-watched : goal.returns-clause-watched

@@ -1,4 +1,0 @@
-pub mod Scenes
-pub mod Showing
-pub mod Steps
-pub mod Eventful

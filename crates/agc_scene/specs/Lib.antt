@@ -1,4 +1,0 @@
-pub mod Scenes
-pub mod Origins
-pub mod Events
-pub mod Reading
