@@ -26,11 +26,8 @@ const AROUND = { time: [1100, 350], rows: [22, 7] };
 /** How much of a run is there at once as it is opened, in ticks: what is left comes behind the first picture. */
 export const SOON = 3600;
 
-/** More ticks are many. */
-const LONG = 9000;
-
-/** How much is seen of a long run whose first alarm comes soon: up to that, and some more. */
-const BEYOND = 1.15;
+/** More ticks are many; and how much is seen of a long run whose first alarm comes soon: up to that, and some more. */
+const [LONG, BEYOND] = [9000, 1.15];
 
 /** The bench of `New`: so much may be asked of it that its clock runs for an hour and more. */
 export const NEW_BENCH = Object.freeze({ ...emptyBench(), limit: 1_000_000 });
@@ -177,7 +174,7 @@ export function isWhole(s) {
 
 /** What a branch is called that was left as such a number was changed. */
 const CHANGED = { steal: "stolen time was changed", job: "a cost was changed", seed: "the seed was changed", event: "an event was changed",
-  sets: "the core sets were changed", task: "a period was changed" };
+  sets: "the core sets were changed", task: "a period was changed", phase: "a priority was changed" };
 
 /**
  * Goes on with other numbers: from the beginning, or from the row that is shown. A slider that is moved on,

@@ -10,7 +10,7 @@
  */
 import { readBench, requestsOf, writeBench } from "./bench.js";
 import { packed, unpacked } from "./files.js";
-import { STRETCH, isClock } from "./run.js";
+import { CHANGING, STRETCH, isAlike, isClock } from "./run.js";
 
 const STORED = "agc-workbench-undo";
 
@@ -28,8 +28,9 @@ export class Damaged extends Error {}
 export function recipeOf(run, count) {
   const asked = requestsOf(run.given);
   const first = run.changes[0]?.before ?? run.bench;
+  const [times, plan] = [CHANGING.clock, CHANGING.plan].map((names) => Object.fromEntries(names.flatMap((it) => (isAlike(first[it], run.given[it]) ? [] : [[it, first[it]]]))));
   /** @type {any[]} */
-  const parts = [];
+  const parts = Object.keys(times).length === 0 ? [] : [["s", times]];
   const add = (/** @type {string} */ kind) => {
     const last = parts.at(-1);
     if (last?.[0] === kind) last[1] += 1;
@@ -46,10 +47,6 @@ export function recipeOf(run, count) {
     }
     while (changes[at]?.row === row) parts.push(["s", changes[at++].given]);
   }
-  const plan = {
-    ...(first.sets === run.given.sets ? {} : { sets: first.sets }),
-    ...(first.task === run.given.task ? {} : { task: first.task }),
-  };
   const isPlan = Object.keys(plan).length > 0;
   const isPlain = parts.every((it) => it[0] === "d" || it[0] === "c")
     && (run.given.seconds !== undefined || parts.every((it) => it[0] === "d"));
@@ -114,11 +111,7 @@ export function readAddress(mark) {
   return found;
 }
 
-/** The numbers of a bench that a recipe may have changed: of its clock, and of its plan. */
-const CLOCKED = ["steal", "job", "event"];
-const PLANNED = ["sets", "task"];
-
-/** Whether these are some of a bench's own, such as its document might have. @param {any} given @param {string[]} names @param {import("./bench.js").Bench} bench */
+/** Whether these are numbers of a bench that a recipe may have changed, such as its document might have. @param {any} given @param {string[]} names @param {import("./bench.js").Bench} bench */
 function areOf(given, names, bench) {
   const isObject = typeof given === "object" && !Array.isArray(given);
   if (!isObject || !Object.keys(given).every((it) => names.includes(it))) return false;
@@ -131,7 +124,7 @@ function isPart(part, bench) {
   if (!Array.isArray(part)) return false;
   const [kind, one, who] = part;
   if (kind === "c" || kind === "d") return Number.isSafeInteger(one) && one >= 0;
-  if (kind === "s") return areOf(one, CLOCKED, bench);
+  if (kind === "s") return areOf(one, CHANGING.clock, bench);
   return kind === "y" && typeof one === "string" && typeof who === "string" && !isClock(who);
 }
 
@@ -139,7 +132,7 @@ function isPart(part, bench) {
 export async function readRecipe(data, bench) {
   try {
     const { plan = {}, parts } = JSON.parse(await unpacked(data));
-    const isWhole = areOf(plan, PLANNED, bench) && parts.every((/** @type {any} */ it) => isPart(it, bench));
+    const isWhole = areOf(plan, CHANGING.plan, bench) && parts.every((/** @type {any} */ it) => isPart(it, bench));
     if (!isWhole) throw new Damaged("");
     return /** @type {Recipe} */ ({ plan, parts });
   } catch {

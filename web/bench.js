@@ -205,12 +205,8 @@ function tableOf(table, level, place) {
 
 /** A bench that asks for nothing. */
 export function emptyBench() {
-  /** @type {Bench} */
-  const bench = {
-    ...{ limit: 1000, allowance: 1_000_000n, key: ["nothing"], radar: ["nothing"], script: [] },
-    ...{ task: [], phase: [], worker: [], device: [], steal: 0, job: [], event: [] },
-  };
-  return bench;
+  return /** @type {Bench} */ ({ limit: 1000, allowance: 1_000_000n, key: ["nothing"], radar: ["nothing"], script: [],
+    task: [], phase: [], worker: [], device: [], steal: 0, job: [], event: [] });
 }
 
 /** What a document has whose keys are left out: a scenario has room for all that its clock asks. @param {string} level */

@@ -13,23 +13,22 @@ import { state } from "./state.js";
 import { octal } from "./words.js";
 
 /** How wide a picture is, and how high all its lanes; how long what is more urgent is waited for, in milliseconds. */
-const WIDE = 270;
-const HIGH = 56;
-const BUSY = 200;
+const [WIDE, HIGH, BUSY] = [270, 56, 200];
 
 /** @type {Map<string, import("./run.js").Run>} */
 const runs = new Map();
 
-/** What waits to be drawn. @type {{ name: string, text: string, canvas: HTMLCanvasElement }[]} */
+/** What waits to be drawn, or without a canvas, just to be made. @typedef {{ name: string, text: string, canvas?: HTMLCanvasElement }} Card @type {Card[]} */
 let waiting = [];
 
-/** Draws an example on a canvas, once it is its turn. @param {{ name: string, text: string, canvas: HTMLCanvasElement }} card */
-export function drawCard(card) {
+/** Draws examples on canvases, each once it is its turn; those without one are made ready after all others. @param {Card[]} cards */
+export function drawCards(cards) {
   if (waiting.length === 0) setTimeout(drawNext, 0);
-  waiting.push(card);
+  const [drawn, others] = [true, false].map((isDrawn) => [...waiting, ...cards].filter((it) => (it.canvas !== undefined) === isDrawn));
+  waiting = [...drawn, ...others];
 }
 
-/** An example's run, with some more of it each time, and whether all is there that its picture shows. @param {{ name: string, text: string }} card */
+/** An example's run, with some more of it each time, and whether all is there that its picture shows. @param {Card} card */
 function runFor({ name, text }) {
   const known = runs.get(name);
   const bench = readBench(text);
@@ -41,29 +40,26 @@ function runFor({ name, text }) {
   return { run, seen, isReady };
 }
 
-/** Makes the runs of examples ready, one after the other, while nothing more urgent is to be done. @param {{ name: string, text: string }[]} cards */
-export function makeReady(cards) {
-  if (cards.length === 0) return;
-  const isBusy = state().clock.isRunning || state().run.isFilling;
-  const isReady = !isBusy && runFor(cards[0]).isReady;
-  // (a long one lets the others go first)
-  setTimeout(makeReady, isBusy ? BUSY : 0, isReady ? cards.slice(1) : isBusy ? cards : [...cards.slice(1), cards[0]]);
-}
-
 function drawNext() {
   // (a dialog that was closed draws nothing)
-  waiting = waiting.filter((it) => it.canvas.isConnected);
-  if (waiting.length === 0) return;
-  const { run, seen, isReady } = runFor(waiting[0]);
-  const { canvas } = waiting[0];
-  if (isReady && run.count === 0) {
-    // (where no request follows there is nothing over time: the code that is kept is the picture)
-    const { scene: { codes } } = run.show(0, 0)[0];
-    canvas.replaceWith(make("span", { class: "picture dsky" }, make("span", {}, "PROG"), octal(codes[2], 5)));
-    waiting.shift();
-  } else if (isReady) {
+  waiting = waiting.filter((it) => it.canvas?.isConnected ?? true);
+  const card = waiting.shift();
+  if (card === undefined) return;
+  const isBusy = card.canvas === undefined && (state().clock.isRunning || state().run.isFilling);
+  const made = isBusy ? null : runFor(card);
+  // (a long one lets the others go first)
+  if (made === null || !made.isReady) waiting.push(card);
+  else if (card.canvas !== undefined) draw(card.canvas, made);
+  setTimeout(drawNext, isBusy ? BUSY : 0);
+}
+
+/** @param {HTMLCanvasElement} canvas @param {ReturnType<typeof runFor>} made */
+function draw(canvas, { run, seen }) {
+  if (run.count > 0) {
     paint(canvas, pictureOf(run, run.count, { width: canvas.clientWidth || WIDE, high: HIGH / run.sets, parts: ["sets"], isBare: true, theme: themeNow(), ...seen }));
-    waiting.shift();
-  } else waiting.push(...waiting.splice(0, 1));
-  setTimeout(drawNext, 0);
+    return;
+  }
+  // (where no request follows there is nothing over time: the code that is kept is the picture)
+  const { scene: { codes } } = run.show(0, 0)[0];
+  canvas.replaceWith(make("span", { class: "picture dsky" }, make("span", {}, "PROG"), octal(codes[2], 5)));
 }

@@ -6,7 +6,7 @@ import { TOPICS, told } from "./examples.js";
 import { formOf } from "./forms.js";
 import { help } from "./help.js";
 import { sharedMark } from "./keep.js";
-import { drawCard } from "./cards.js";
+import { drawCards } from "./cards.js";
 import { MOST_BYTES } from "./bench.js";
 import { paint, svgOf } from "./drawing-pens.js";
 import { pictureSeen } from "./stage.js";
@@ -22,7 +22,7 @@ function cardOf({ kind, name, text }, k, { length }) {
   const [title, about] = kind === "exercise" ? [files.questionOf(text).split("\n")[0], ""] : told(name) ?? [name, files.firstSentence(text)];
   // (a picture of an exercise would answer it)
   const pictures = kind === "exercise" ? [] : [make("canvas", { class: "picture", "aria-hidden": "true" })];
-  for (const canvas of pictures) drawCard({ name, text, canvas });
+  drawCards(pictures.map((canvas) => ({ name, text, canvas })));
   return make("li", {}, ...pictures, make("button", { type: "button", class: "choice", onclick: () => act("kept", name) }, make("b", {}, title)),
     ...(kind === "exercise" ? [make("span", { class: "name" }, `${k + 1} of ${length}`)] : []), make("span", { class: "about" }, ...withCode(about)));
 }

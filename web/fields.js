@@ -8,10 +8,10 @@
 import { Machine } from "../libagc/js/machine.js";
 import { readBench, requestsOf } from "./bench.js";
 import { runOf } from "./clock.js";
-import { jobsOf } from "./jobs.js";
+import { jobsOf, missedIn } from "./jobs.js";
 import { NO_SOURCE } from "./run.js";
 import { namesOf } from "./state.js";
-import { firstAlarm } from "./sweep.js";
+import { firstsOf } from "./sweep.js";
 import { octal } from "./words.js";
 
 const CODES = ["none", "1201", "1202", "1203"];
@@ -87,10 +87,10 @@ function shortest({ bench }) {
 
 /** Whether an alarm comes. @param {import("./bench.js").Bench} bench */
 function isRaised(bench) {
-  const steps = firstAlarm(bench);
+  const steps = firstsOf(bench);
   let step = steps.next();
   while (!step.done) step = steps.next();
-  return step.value !== null;
+  return step.value.alarm !== null;
 }
 
 /** The greatest percentage that may be stolen without an alarm, found by halving. @param {Run} run @param {number} seconds */
@@ -115,7 +115,7 @@ function rowWhere(run, holds) {
 const lateFirst = (run) => jobsOf(run, run.count).filter((it) => it.missed > 0).sort((one, other) => one.missedRow - other.missedRow)[0];
 
 /** @param {Run} run */
-const missed = (run) => String(jobsOf(run, run.count).reduce((sum, it) => sum + it.missed, 0));
+const missed = (run) => String(missedIn(run, run.count));
 
 const alarm = (/** @type {string} */ label, /** @type {any} */ change) => ({ label, options: CODES, answer: ofFirst((it) => it.code, change) });
 const request = (/** @type {string} */ label) => ({ label, answer: ofFirst((it) => it.request) });

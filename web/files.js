@@ -23,10 +23,7 @@ export function keptTexts(data) {
 
 /** The first sentence of the comment at a document's head. @param {string} document */
 export function firstSentence(document) {
-  const lines = document.split("\n");
-  const end = lines.findIndex((it) => !it.startsWith("#"));
-  const head = lines.slice(0, end < 0 ? lines.length : end);
-  const text = head.map((it) => it.slice(1).trim()).join(" ");
+  const text = questionOf(document).replaceAll("\n", " ");
   return /^.*?[.!?](?= |$)/.exec(text)?.[0] ?? text;
 }
 
@@ -79,10 +76,7 @@ export function benchOf(run, count) {
   const { sets, limit, allowance, power, task, phase, key, radar } = run.bench;
   /** @type {(rows: any[]) => any[]} */
   const unnamed = (rows) => rows.map(({ name: _name, ...rest }) => rest);
-  return writeBench({
-    ...{ ...emptyBench(), sets, limit, allowance, power, key, radar },
-    ...{ task: unnamed(task), phase: unnamed(phase), script: run.lines.slice(1, count + 1) },
-  });
+  return writeBench({ ...emptyBench(), sets, limit, allowance, power, key, radar, task: unnamed(task), phase: unnamed(phase), script: run.lines.slice(1, count + 1) });
 }
 
 /** Hands a text or a picture out as a file. @param {string} name @param {string | Blob} given */

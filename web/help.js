@@ -1,5 +1,6 @@
 /** What the help says. */
 import { make, withCode } from "./dom.js";
+import { GLOSSARY } from "./touch.js";
 import { MEANINGS, PARTS, REQUESTS, formOf } from "./words.js";
 
 const KEYS = [
@@ -10,17 +11,6 @@ const KEYS = [
   ["u r", "undo, redo"], ["b o e", "new, open, examples"], ["d s", "edit, save"],
   ["+ -", "closer, wider"], ["[ ]", "move along the chart"], ["f x", "all of the chart; to an alarm"],
   ["P", "larger, for a projector: chart and story alone"], ["?", "this help"],
-];
-
-const TABLES = [
-  ["Core sets", "each job that is alive holds one of these blocks of memory; the running job is in "
-    + "set 0"],
-  ["VAC areas", "a job that findvac establishes also holds one of these"],
-  ["Waitlist", "tasks: short programs that begin at a set time, and may establish jobs"],
-  ["Phases", "how far each of six restart groups has come: this says what begins again after an "
-    + "alarm"],
-  ["FAILREG", "the codes of alarms: the first, the second and the latest"],
-  ["NEWJOB", "the job that is more urgent than the running one, if any"],
 ];
 
 /** Words and what they mean. @param {string[][]} rows @param {(word: string) => any[]} spelled how a word is written */
@@ -53,7 +43,7 @@ export function help() {
     make("p", {}, "An alarm comes when a request needs a place and the table is full: 1201 areas, "
       + "1202 core sets, 1203 the Waitlist. Then all jobs and tasks are gone, and the phases say "
       + "what begins again. The button After the restart shows the tables with that."),
-    make("h3", {}, "Tables"), listOf(TABLES, (it) => [it]),
+    make("h3", {}, "Tables"), make("ul", {}, ...Object.values(GLOSSARY).map((it) => make("li", {}, it))),
     make("h3", {}, "Keys"), keys,
     make("h3", {}, "Requests"), listOf(requests, (it) => [make("code", {}, it)]),
     make("p", {}, Object.values(PARTS).map((it) => `${it.name}: ${it.sentence}`).join("; ") + "."),

@@ -8,9 +8,7 @@
  */
 
 /** The most steps that are kept to be undone, branches, and rows that all of these have. */
-const MOST_KEPT = 200;
-const MOST_BRANCHES = 50;
-const MOST_ROWS = 4_000_000;
+const [MOST_KEPT, MOST_BRANCHES, MOST_ROWS] = [200, 50, 4_000_000];
 
 /** @type {History} */
 export const NOTHING_DONE = Object.freeze({ done: [], undone: [], branches: [], named: 0 });

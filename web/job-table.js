@@ -4,12 +4,9 @@ import { assign, button, by, fill, make } from "./dom.js";
 import { budgetOf } from "./work.js";
 import { jobsOf } from "./jobs.js";
 import { act, coloursOf, differ, isHidden, namesOf } from "./state.js";
-import { counted, octal, seconds } from "./words.js";
+import { counted, octal, seconds, took } from "./words.js";
 
 /** @typedef {import("./state.js").State} State @typedef {import("./jobs.js").JobRow} JobRow */
-
-/** Hundredths of a centisecond, to the nearest centisecond. @param {number} hundredths */
-const took = (hundredths) => seconds(Math.floor((hundredths + 50) / 100));
 
 const percent = (/** @type {number} */ part) => `${Math.round(100 * part)} %`;
 
@@ -31,7 +28,7 @@ function lineOf(row, name) {
     part === null ? "–" : percent(part), percent(share), ...[least, mean, most].map((it) => (ended === 0 ? "–" : took(it)))].map((it) => make("td", {}, it)));
 }
 
-/** What the table's lines and its head say, up to the row that is shown; at the beginning, of all of the run. @param {State} now */
+/** What the table's lines and its head say, up to the row that is shown; at the beginning, of all of the run. @param {Pick<State, "run" | "count" | "at">} now */
 function tableOf({ run, count: all, at }) {
   const count = at > 0 ? at : all;
   const rows = run.bench.seconds === undefined ? [] : jobsOf(run, count);
@@ -42,10 +39,7 @@ function tableOf({ run, count: all, at }) {
 }
 
 /** Which part of the time all jobs of a run ask for, with what is stolen, in percent. @param {import("./run.js").Run} run */
-export function loadOf(run) {
-  const stolen = budgetOf(run, run.count, { from: 0, to: run.ticksAt(run.count) })?.stolen ?? 0;
-  return Math.round(100 * jobsOf(run, run.count).reduce((sum, it) => sum + (utilization(it) ?? 0), stolen / 100));
-}
+export const loadOf = (run) => Math.round(100 * tableOf({ run, count: run.count, at: 0 }).all);
 
 /** The table's lines. @param {State} now */
 export function linesOf(now) {

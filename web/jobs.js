@@ -7,7 +7,8 @@
  *   began: number, ended: number, lost: number, alive: number, least: number, mean: number, most: number, share: number,
  *   missed: number, firstMissed: number | null, missedRow: number }} JobRow
  */
-import { State, lastUpTo } from "./lanes.js";
+import { State, lastUpTo, lastWhere } from "./lanes.js";
+import { octal } from "./words.js";
 
 /** A line that lists a task once more, from the action of the task itself. */
 export const AGAIN = /^list ([0-9]+) ([0-7]{5}) ([0-7]{5})$/;
@@ -28,13 +29,37 @@ export function periodOf({ task, event }, at) {
   return all.length === 0 ? null : Math.min(...all);
 }
 
+/** How long jobs may take that have a deadline, by the addresses at which they begin: of several rows of an address the first counts. @param {import("./bench.js").Bench} bench */
+export function limitsOf({ job }) {
+  const all = new Map([...job].reverse().map(({ at, deadline = Infinity }) => [parseInt(at, 8), 100 * deadline]));
+  return new Map([...all].filter(([, limit]) => limit < Infinity));
+}
+
+/** The lines by which jobs are asked for at an address. @param {string} at */
+const askingFor = (at) => new RegExp(`^(novac|findvac) ([0-7]+)(?= ${at} )`);
+
+/** With which priority jobs are asked for at an address; null where none is. @param {import("./bench.js").Bench} bench @param {string} at */
+export function priorityOf({ task, phase, event }, at) {
+  const lines = [...task.flatMap((it) => it.action), ...event.flatMap((it) => it.do), ...phase.flatMap((it) => it.job ?? [])];
+  const found = lines.flatMap((it) => askingFor(at).exec(it)?.[2] ?? []);
+  return found.length === 0 ? null : parseInt(found[0], 8);
+}
+
+/** What of a bench asks for jobs at an address, with another priority. @param {import("./bench.js").Bench} bench @param {string} at @param {number} priority */
+export function withPriority({ task, phase, event }, at, priority) {
+  const asked = (/** @type {string} */ line) => line.replace(askingFor(at), `$1 ${octal(priority, 2)}`);
+  return {
+    phase: phase.map((it) => (it.job === undefined ? it : { ...it, job: asked(it.job) })),
+    task: task.map((it) => ({ ...it, action: it.action.map(asked) })),
+    event: event.map((it) => ({ ...it, do: it.do.map(asked) })),
+  };
+}
+
 /** The run's jobs by the addresses at which they began, in the order in which the first of each did, up to a row. @param {Run} run @param {number} count @returns {JobRow[]} */
 export function jobsOf(run, count) {
-  const isTimed = run.bench.seconds !== undefined;
-  const momentOf = (/** @type {number} */ row) => (isTimed ? run.momentAt(row) : 100 * run.ticksAt(row));
   const time = run.columns.times.items[count];
-  const isOver = isTimed && time >= 100 * (run.bench.seconds ?? 0) && count === run.count;
-  const now = isOver ? 100 * time : momentOf(count);
+  const isOver = time >= 100 * (run.bench.seconds ?? Infinity) && count === run.count;
+  const now = isOver ? 100 * time : run.momentAt(count);
   const { jobs, eras } = run.lanes;
   /** @type {Map<number, JobRow & { responses: number[] }>} */
   const rows = new Map();
@@ -44,31 +69,36 @@ export function jobsOf(run, count) {
     rows.set(at, row);
     row.began += 1;
     const isAlive = gone === 0 || gone >> 1 > count;
-    const end = isAlive ? now : momentOf(gone >> 1);
+    const end = isAlive ? now : run.momentAt(gone >> 1);
     const isLost = !isAlive && (gone & 1) === 1 && eras[lastUpTo(eras, eras.length, gone >> 1)] === gone >> 1;
     if (isAlive) row.alive += 1;
     else if (isLost) row.lost += 1;
-    else row.responses.push(end - momentOf(born >> 1));
-    const due = momentOf(born >> 1) + 100 * (row.deadline ?? Infinity);
+    else row.responses.push(end - run.momentAt(born >> 1));
+    const due = run.momentAt(born >> 1) + 100 * (row.deadline ?? Infinity);
     if (end <= due) continue;
     row.missed += 1;
     if (row.firstMissed !== null && row.firstMissed <= due) continue;
-    [row.firstMissed, row.missedRow] = [due, lateRow(momentOf, born >> 1, count, due)];
+    // (the first row after it)
+    [row.firstMissed, row.missedRow] = [due, 1 + lastWhere(count, (it) => run.momentAt(it) <= due)];
   }
   const computed = computedOf(run, count, isOver);
   return [...rows.values()].map((row) => summedUp(row, computed.get(row.at) ?? 0, now));
 }
 
+/** How many deadlines are missed up to a row. @param {Run} run @param {number} count */
+export function missedIn(run, count) {
+  return jobsOf(run, count).reduce((sum, it) => sum + it.missed, 0);
+}
+
 /** The jobs that are alive at a row and past their deadlines, in the order in which they began. @param {Run} run @param {number} row */
 export function lateAt(run, row) {
   const { lanes: { jobs }, bench } = run;
-  const momentOf = (/** @type {number} */ it) => (bench.seconds === undefined ? 100 * run.ticksAt(it) : run.momentAt(it));
-  const limits = new Map(bench.job.flatMap(({ at, deadline }) => (deadline === undefined ? [] : [[parseInt(at, 8), 100 * deadline]])));
+  const limits = limitsOf(bench);
   const late = [];
   for (let id = 1; limits.size > 0 && id < jobs.count && jobs.born.items[id] >> 1 <= row; id++) {
     const [at, born, gone] = [jobs.at.items[id], jobs.born.items[id] >> 1, jobs.gone.items[id] >> 1];
-    const due = momentOf(born) + (limits.get(at) ?? Infinity);
-    if ((gone === 0 || gone > row) && momentOf(row) > due) late.push({ at, born, due });
+    const due = run.momentAt(born) + (limits.get(at) ?? Infinity);
+    if ((gone === 0 || gone > row) && run.momentAt(row) > due) late.push({ at, born, due });
   }
   return late;
 }
@@ -97,25 +127,11 @@ function usedBefore(run, row, hasCost) {
   return hasCost ? run.columns.left.items[row - 1] : 0;
 }
 
-/** The first row after a moment. @param {(row: number) => number} momentOf @param {number} from @param {number} to @param {number} due */
-function lateRow(momentOf, from, to, due) {
-  let [low, high] = [from, to];
-  while (low < high) {
-    const middle = (low + high) >> 1;
-    if (momentOf(middle) > due) high = middle;
-    else low = middle + 1;
-  }
-  return low;
-}
-
 /** @param {Run} run @param {number} at @param {number} priority */
 function rowOf({ bench }, at, priority) {
   const given = bench.job.find((it) => parseInt(it.at, 8) === at);
-  return {
-    ...{ at, priority, period: periodOf(bench, at.toString(8).padStart(5, "0")), cost: given?.cost ?? null, deadline: given?.deadline ?? null },
-    ...{ began: 0, ended: 0, lost: 0, alive: 0, least: 0, mean: 0, most: 0, share: 0, missed: 0, firstMissed: null, missedRow: 0 },
-    responses: /** @type {number[]} */ ([]),
-  };
+  return { at, priority, period: periodOf(bench, octal(at, 5)), cost: given?.cost ?? null, deadline: given?.deadline ?? null, began: 0, ended: 0, lost: 0, alive: 0,
+    least: 0, mean: 0, most: 0, share: 0, missed: 0, firstMissed: null, missedRow: 0, responses: /** @type {number[]} */ ([]) };
 }
 
 /** @param {JobRow & { responses: number[] }} row @param {number} computed @param {number} now @returns {JobRow} */

@@ -33,6 +33,10 @@ function inTurn(what) {
 /** @param {State} now @param {State} before */
 export function keeping(now, before) {
   if (!differ(now, before, "run", "count", "at", "seen", "hidden", "history", "isEmbedded") || document.documentElement.dataset.ready !== "yes") return;
+  keepSoon();
+}
+
+function keepSoon() {
   clearTimeout(kept.due);
   kept.due = setTimeout(() => inTurn(keepNow), KEPT_AFTER);
 }
@@ -65,11 +69,7 @@ export async function sharedMark(now) {
 
 async function keepNow() {
   const now = state();
-  if (now.clock.isRunning || now.run.isFilling) {
-    clearTimeout(kept.due);
-    kept.due = setTimeout(() => inTurn(keepNow), KEPT_AFTER);
-    return;
-  }
+  if (now.clock.isRunning || now.run.isFilling) return keepSoon();
   const { first, mark } = await shownMark(now);
   if (mark === kept.mark || (mark === "#" && kept.mark === "")) return;
   try {

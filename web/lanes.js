@@ -210,10 +210,7 @@ export class Lanes {
     const log = this.logs.set[set];
     const [id, value] = [log.ids.items[k], log.values.items[k]];
     if (id === 0) return null;
-    return {
-      ...{ id, number: value & 15, state: (value >> 4) & 3, priority: (value >> 6) & 31 },
-      ...{ area: (value >> 11) & 7, at: this.jobs.at.items[id], now: value >> 14 },
-      ...{ from: log.keys.items[k], to: log.endOf(k) },
-    };
+    return { id, number: value & 15, state: (value >> 4) & 3, priority: (value >> 6) & 31, area: (value >> 11) & 7, at: this.jobs.at.items[id],
+      now: value >> 14, from: log.keys.items[k], to: log.endOf(k) };
   }
 }

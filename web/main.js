@@ -1,7 +1,7 @@
 /** The workbench: the state, the views that draw it, and the keys and buttons that act on it. */
 import { start } from "../libagc/js/machine.js";
 import { build } from "./build.js";
-import { makeReady } from "./cards.js";
+import { drawCards } from "./cards.js";
 import { ACTIONS, firstState, settled } from "./actions.js";
 import { besideText, account, isTourSeen, question, tour } from "./story.js";
 import { fillOn } from "./clock.js";
@@ -203,7 +203,7 @@ async function open() {
   set({ history: { ...state().history, done: [] } });
   document.documentElement.dataset.ready = "yes";
   await restore();
-  setTimeout(makeReady, 500, state().kept.filter((it) => it.kind === "example"));
+  setTimeout(drawCards, 500, state().kept.filter((it) => it.kind === "example"));
 }
 
 /** The module's bytes, which stand deflated in the page. */

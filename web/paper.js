@@ -21,9 +21,7 @@ import { isHidden, namesOf } from "./state.js";
 import { MEANINGS, PARTS, counted, formOf } from "./words.js";
 
 /** How many ticks in a row in which nothing changes are one line, the most lines, and of how many alarms it is said why they came. */
-const LEAST_QUIET = 3;
-const MOST_PRINTED = 5000;
-const MOST_ALARMS = 6;
+const [LEAST_QUIET, MOST_PRINTED, MOST_ALARMS] = [3, 5000, 6];
 
 /** A line of the table of requests. @param {Shown} shown @param {Run} run @param {Names} names */
 function lineOf(shown, run, names) {

@@ -15,14 +15,11 @@
 import { NUMBERS } from "../libagc/js/library.js";
 import { Code, Kind, Machine, refusalOf, sceneOf } from "../libagc/js/machine.js";
 import { Column } from "./column.js";
-import { Lanes } from "./lanes.js";
+import { Lanes, lastWhere } from "./lanes.js";
 import { costsOf, needOf } from "./work.js";
 
-/** How many rows lie between two checkpoints. */
-const APART = 256;
-
-/** How many rows are kept that were looked at. */
-const MOST_SEEN = 256;
+/** How many rows lie between two checkpoints, and how many are kept that were looked at. */
+const [APART, MOST_SEEN] = [256, 256];
 
 /** How many requests are asked at a stretch, so that the page goes on answering. */
 export const STRETCH = 2_000;
@@ -60,6 +57,12 @@ const REFUSED = { [Code.OK]: 0, [Code.SPENT]: SPENT, [Code.LOG_FULL]: LOG_FULL }
 
 /** @type {Source} */
 export const NO_SOURCE = Object.freeze({ document: "", exercise: "", question: "", isChanged: false });
+
+/** What of a bench may be changed as its clock runs, and what only before that. @type {Record<"clock" | "plan", (keyof import("./bench.js").Bench)[]>} */
+export const CHANGING = { clock: ["steal", "seed", "job", "event"], plan: ["sets", "task", "phase"] };
+
+/** Whether two values of a bench are spelled alike. @param {any} one @param {any} other */
+export const isAlike = (one, other) => JSON.stringify(one) === JSON.stringify(other);
 
 // What is kept of each row: bits of `marks`.
 const ALARM = 1;
@@ -195,14 +198,10 @@ function isChange(step, line, before, after) {
 
 /** What is there after the restart that a row ended with. @param {Shown} shown @returns {Shown} */
 export function afterOf(shown) {
-  const { row, after, scene, afterWords } = shown;
+  const { row, after, scene, afterWords: words } = shown;
   if (after === null) return shown;
-  const since = after.tasks.map(() => 2 * row + 1);
-  const words = afterWords;
-  const jobs = after.sets.map(() => 2 * row + 1);
-  const from = after.sets.map((it) => it?.at ?? 0);
-  return { ...shown, scene: after, last: scene, words, tasksSince: since, isAfter: true,
-    jobsSince: jobs, jobsFrom: from };
+  const [tasksSince, jobsSince] = [after.tasks, after.sets].map((all) => all.map(() => 2 * row + 1));
+  return { ...shown, scene: after, last: scene, words, tasksSince, isAfter: true, jobsSince, jobsFrom: after.sets.map((it) => it?.at ?? 0) };
 }
 
 /** Whether it is the clock that asks, or one of its events. @param {string} who */
@@ -232,13 +231,9 @@ export class Run {
     /** Who asked, by number. */
     this.who = ["nobody"];
     this.count = 0;
-    this.columns = {
-      ...{ kinds: new Column(Uint8Array), numbers: new Column(Uint16Array) },
-      ...{ by: new Column(Uint16Array), marks: new Column(Uint8Array) },
-      ...{ ticks: new Column(Uint32Array), uses: new Column(Uint16Array) },
-      // (the clock's centisecond, how many hundredths of it are left, and what jobs still need)
-      ...{ times: new Column(Uint32Array), left: new Column(Uint8Array), waiting: new Column(Uint32Array) },
-    };
+    // (the last three: the clock's centisecond, how many hundredths of it are left, and what jobs still need)
+    this.columns = { kinds: new Column(Uint8Array), numbers: new Column(Uint16Array), by: new Column(Uint16Array), marks: new Column(Uint8Array),
+      ticks: new Column(Uint32Array), uses: new Column(Uint16Array), times: new Column(Uint32Array), left: new Column(Uint8Array), waiting: new Column(Uint32Array) };
     this.costs = costsOf(bench);
     /** @type {number[]} */
     this.alarms = [];
@@ -451,11 +446,7 @@ export class Run {
 
   /** Whether the first rows aren't what the document asks for: something was asked by hand, or the clock was given other numbers. @param {number} count */
   isChanged(count) {
-    const spelled = (/** @type {any} */ { steal, job, event }) =>
-      JSON.stringify([steal, job, event]);
-    const { bench, given } = this;
-    return this.handRows(count) > 0 || spelled(bench) !== spelled(given)
-      || bench.sets !== given.sets || bench.task !== given.task;
+    return this.handRows(count) > 0 || Object.values(CHANGING).flat().some((it) => !isAlike(this.bench[it], this.given[it]));
   }
 
   /** How many of the first rows were asked by hand. @param {number} count */
@@ -492,12 +483,7 @@ export class Run {
     return this.columns.ticks.items[row];
   }
 
-  /**
-   * Of the ticks of these rows, in how many percent no job was running, rounded down as by
-   * `agc_watch peaks`.
-   * @param {number} from
-   * @param {number} to
-   */
+  /** Of the ticks of these rows, in how many percent no job was running, rounded down as by `agc_watch peaks`. @param {number} from @param {number} to */
   idlePercent(from, to) {
     const { ticks, uses } = this.columns;
     let [count, idle] = [0, 0];
@@ -517,13 +503,7 @@ export class Run {
 
   /** The first row from which on so many ticks were served. @param {number} ticks @param {number} count how many rows there are to look at */
   rowAtTime(ticks, count) {
-    let [low, high] = [0, count];
-    while (low < high) {
-      const middle = (low + high) >> 1;
-      if (this.columns.ticks.items[middle] < ticks) low = middle + 1;
-      else high = middle;
-    }
-    return low;
+    return lastWhere(count, (row) => this.ticksAt(row) < ticks) + 1;
   }
 
   /** The rows from one to another, with all that is shown of them. @param {number} from @param {number} to @returns {Shown[]} */
@@ -539,25 +519,13 @@ export class Run {
   showFirst(state) {
     const scene = state.machine.scene();
     const isBroken = scene.codes[0] !== 0;
-    return {
-      row: 0,
-      line: this.bench.power === undefined ? "fresh start" : "power-up",
-      who: "nobody",
-      reply: isBroken ? "alarm 1107" : "restarted",
-      ...{ kind: Kind.RESTARTED, step: null, scene, words: state.machine.words },
-      ...{ jobsSince: scene.sets.map(() => 1), tasksSince: scene.tasks.map(() => 1) },
-      jobsFrom: scene.sets.map((it) => it?.at ?? 0),
-      ...{ before: null, after: null, ticks: 0, time: 0, afterWords: state.machine.words },
-      ...{ last: null, era: 0, begun: state.begun, ended: state.ended },
-    };
+    return { row: 0, line: this.bench.power === undefined ? "fresh start" : "power-up", who: "nobody", reply: isBroken ? "alarm 1107" : "restarted",
+      kind: Kind.RESTARTED, step: null, scene, words: state.machine.words, afterWords: state.machine.words, before: null, after: null, last: null,
+      jobsSince: scene.sets.map(() => 1), tasksSince: scene.tasks.map(() => 1), jobsFrom: scene.sets.map((it) => it?.at ?? 0),
+      ticks: 0, time: 0, era: 0, begun: state.begun, ended: state.ended };
   }
 
-  /**
-   * Asks the next request of a state, and describes it as it was when it was answered.
-   * @param {Witness} state
-   * @param {number} row
-   * @returns {Shown}
-   */
+  /** Asks the next request of a state, and describes it as it was when it was answered. @param {Witness} state @param {number} row @returns {Shown} */
   showNext(state, row) {
     const line = this.lines[row];
     const kind = this.columns.kinds.items[row];
@@ -578,20 +546,11 @@ export class Run {
     const tasks = older.tasksIn(scene.tasks, row, false);
     const after = step !== null && step.beginsEra ? state.machine.scene() : null;
     const fresh = scene.sets.filter((job) => job !== null && ((living >> job.number) & 1) === 0);
-    return {
-      ...{ row, line, kind, step, scene, words, before, after, last },
-      who: this.whoAsked(row),
+    return { row, line, kind, step, scene, words, afterWords: state.machine.words, before, after, last, who: this.whoAsked(row),
       reply: step !== null ? step.text : kind === SPENT ? "refused spent" : "refused log full",
-      jobsSince: scene.sets.map((job) =>
-        job === null ? 0 : (living >> job.number) & 1 ? born[job.number] : 2 * row),
-      jobsFrom: scene.sets.map((job) =>
-        job === null ? 0 : (living >> job.number) & 1 ? from[job.number] : job.at),
-      tasksSince: tasks.map((/** @type {HeldTask} */ it) => it.since),
-      ticks: state.now,
-      time: state.now - eraTicks,
-      afterWords: state.machine.words,
-      ...{ era, begun: begun + fresh.length, ended },
-    };
+      jobsSince: scene.sets.map((job) => (job === null ? 0 : (living >> job.number) & 1 ? born[job.number] : 2 * row)),
+      jobsFrom: scene.sets.map((job) => (job === null ? 0 : (living >> job.number) & 1 ? from[job.number] : job.at)),
+      tasksSince: tasks.map((/** @type {HeldTask} */ it) => it.since), ticks: state.now, time: state.now - eraTicks, era, begun: begun + fresh.length, ended };
   }
 }
 

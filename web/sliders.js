@@ -1,20 +1,19 @@
 /**
- * The numbers of the document as sliders: stolen time, what jobs cost, periods, core sets. A slider
+ * The numbers of the document as sliders: stolen time, what jobs cost, periods, priorities, core sets. A slider
  * that is moved asks for its change at once, step by step. And how a run differs from its document,
  * in one line, with since when.
  */
 import { isWhole } from "./actions.js";
 import { outcomeOf } from "./drawing-words.js";
-import { AGAIN, jobsOf } from "./jobs.js";
+import { AGAIN, missedIn, priorityOf, withPriority } from "./jobs.js";
 import { assign, attribute, by, fill, make, set } from "./dom.js";
 import { act, differ, isHidden } from "./state.js";
 import { partsOf } from "./stolen.js";
-import { keepStrips, stripOf } from "./strips.js";
+import { keepStrips, stripOf, valueText } from "./strips.js";
 import { counted, seconds, visible } from "./words.js";
 
-/** The most sliders of jobs and of periods. */
-const MOST_COSTS = 24;
-const MOST_PERIODS = 8;
+/** The most sliders of jobs and of periods; and the longest delay of a task, in centiseconds. */
+const [MOST_COSTS, MOST_PERIODS, MOST_DELAY] = [24, 8, 16250];
 
 /**
  * @typedef {import("./run.js").Run} Run
@@ -30,28 +29,38 @@ const WHAT = {
   cost: "How much computing time each such job needs before it ends",
   seed: "With which number lots begin, by which jobs cost more or less",
   period: "After how long it comes again",
+  priority: "How urgent it is, 1 to 31: of the jobs that are awake the one of the greatest priority runs. The document has it in octal",
   sets: "How many jobs can be alive at once",
 };
+
+/** A slider of a time: up to twice as long as it is. @param {Pick<SliderNumber, "name" | "own" | "value" | "what" | "given">} of @returns {SliderNumber} */
+const timed = (of) => ({ min: 1, max: Math.max(400, 2 * of.value), unit: "cs", ...of });
 
 /** How often tasks come that list themselves again, and events that have a period. @param {import("./bench.js").Bench} bench @returns {SliderNumber[]} */
 function periodsOf({ job, task, event }) {
   const begins = (/** @type {any} */ row) => job.find((it) => it.name !== undefined && row.action.some((/** @type {string} */ line) => line.split(" ")[2] === it.at))?.name;
-  const tasks = task.flatMap((row, k) => row.action.map((line, n) => ({ row, k, n, found: AGAIN.exec(line) })))
-    .filter(({ row, found }) => found !== null && found[2] === row.at && found[3] === row.bank)
-    .map(({ row, k, n, found }) => ({
-      ...{ name: `${visible(begins(row) ?? row.name ?? row.at)} every`, own: row.at, value: Number(found?.[1]), min: 1 },
-      ...{ max: Math.min(16250, Math.max(400, 2 * Number(found?.[1]))), unit: "cs", what: WHAT.period },
-      given: (/** @type {number} */ value) => ({ task: task.map((one, m) => (m !== k ? one
-        : { ...one, action: one.action.map((it, i) => (i === n ? `list ${value} ${one.at} ${one.bank}` : it)) })) }),
-    }));
-  const events = event.flatMap((row, k) => (row.every === undefined ? [] : [{
-    ...{ name: `${visible(row.name ?? `event ${k + 1}`)} every`, own: `event ${k + 1}` },
-    ...{ value: row.every, min: 1 },
-    ...{ max: Math.max(400, 2 * row.every), unit: "cs", what: WHAT.period },
-    given: (/** @type {number} */ every) =>
-      ({ event: event.map((one, m) => (m === k ? { ...one, every } : one)) }),
-  }]));
+  const tasks = task.flatMap((row) => row.action.flatMap((line, n) => {
+    const [, every, at, bank] = AGAIN.exec(line) ?? [];
+    if (at !== row.at || bank !== row.bank) return [];
+    const number = timed({ name: `${visible(begins(row) ?? row.name ?? at)} every`, own: at, value: Number(every), what: WHAT.period,
+      given: (value) => ({ task: task.map((one) => (one === row ? { ...row, action: row.action.map((it, k) => (k === n ? `list ${value} ${at} ${bank}` : it)) } : one)) }) });
+    return [{ ...number, max: Math.min(MOST_DELAY, number.max) }];
+  }));
+  const events = event.flatMap((row, k) => (row.every === undefined ? [] : [timed({ name: `${visible(row.name ?? `event ${k + 1}`)} every`, own: `event ${k + 1}`,
+    value: row.every, what: WHAT.period, given: (every) => ({ event: event.map((one) => (one === row ? { ...row, every } : one)) }) })]));
   return [...tasks, ...events].slice(0, MOST_PERIODS);
+}
+
+/** The jobs of which there are sliders: not those that cost next to nothing, as those that just wait. @param {Run} run */
+const shownOf = ({ bench, given }) => bench.job.slice(0, MOST_COSTS).filter((_, k) => given.job[k]?.cost !== 1);
+
+/** With which priority each job is asked for. @param {import("./bench.js").Bench} bench @param {import("./bench.js").JobRow[]} jobs @returns {SliderNumber[]} */
+function prioritiesOf(bench, jobs) {
+  return jobs.flatMap(({ at, name }) => {
+    const value = priorityOf(bench, at);
+    return value === null ? [] : [{ name: `${visible(name ?? at)} priority`, own: at, value, min: 1, max: 31, unit: "", what: WHAT.priority,
+      given: (/** @type {number} */ priority) => withPriority(bench, at, priority) }];
+  });
 }
 
 /** Numbers of one name by more than their names: by whose they are, or if that is said twice, too, by their places. @param {SliderNumber[]} numbers */
@@ -80,25 +89,19 @@ function stolenOf({ bench: { steal, seconds: length = 0 }, given: { steal: profi
     given: (value) => ({ steal: scaled(value) }) };
 }
 
-/** The numbers of a run that can be moved: not those of jobs that cost next to nothing, as those that just wait. @param {Run} run @returns {SliderNumber[]} */
+/** The numbers of a run that can be moved. @param {Run} run @returns {SliderNumber[]} */
 export function numbersOf(run) {
-  const { bench, given } = run;
+  const { bench } = run;
   const { seed, job } = bench;
   const stolen = stolenOf(run);
-  const costs = job.slice(0, MOST_COSTS).flatMap((it, k) => (typeof it.cost !== "number" || given.job[k]?.cost === 1 ? [] : [{
-    ...{ name: `${visible(it.name ?? it.at)} needs`, own: it.at, value: it.cost, min: 1 },
-    ...{ max: Math.max(400, 2 * it.cost), unit: "cs", what: WHAT.cost },
-    given: (/** @type {number} */ cost) =>
-      ({ job: job.map((one, n) => (n === k ? { ...one, cost } : one)) }),
-  }]));
-  const lots = seed === undefined || job.every(({ cost }) => typeof cost === "number") ? [] : [{
-    ...{ name: "Seed", own: "lots", value: seed, min: 1, max: Math.max(100, seed), unit: "", what: WHAT.seed },
-    given: (/** @type {number} */ value) => ({ seed: value }),
-  }];
+  const costs = shownOf(run).flatMap((it) => (typeof it.cost !== "number" ? [] : [timed({ name: `${visible(it.name ?? it.at)} needs`, own: it.at, value: it.cost,
+    what: WHAT.cost, given: (cost) => ({ job: job.map((one) => (one === it ? { ...it, cost } : one)) }) })]));
+  const lots = seed === undefined || job.every(({ cost }) => typeof cost === "number") ? [] : [{ name: "Seed", own: "lots", value: seed, min: 1,
+    max: Math.max(100, seed), unit: "", what: WHAT.seed, given: (/** @type {number} */ value) => ({ seed: value }) }];
   if (bench.seconds === undefined) return toldApart([stolen, ...costs]);
   const sets = { name: "Core sets", own: "7 or 8", value: bench.sets ?? 7, min: 7, max: 8, unit: "", what: WHAT.sets,
     given: (/** @type {number} */ value) => ({ sets: value }) };
-  return toldApart([stolen, ...costs, ...lots, ...periodsOf(bench), sets]);
+  return toldApart([stolen, ...costs, ...lots, ...periodsOf(bench), sets, ...prioritiesOf(bench, shownOf(run))]);
 }
 
 /** The sliders that are there, by name: its box, field, output, button, and number. @type {Map<string, { box: any, field: any, output: any, button: any, number: SliderNumber }>} */
@@ -120,8 +123,8 @@ function draw(number) {
 }
 
 /** @param {{ field: any, output: any, number: SliderNumber }} row */
-function tell({ field, output, number: { unit } }) {
-  const text = unit === "cs" ? seconds(Number(field.value)) : unit === "" ? field.value : `${field.value} ${unit}`;
+function tell({ field, output, number }) {
+  const text = valueText(number, Number(field.value));
   set(output, text);
   attribute(field, "aria-valuetext", text);
 }
@@ -132,8 +135,8 @@ function rowOf(number) {
   const { name, min, max, what, value } = number;
   const field = make("input", { type: "range", min, max, step: 1, "aria-label": name });
   field.value = String(value);
-  const button = make("button", { type: "button", class: "quiet over", title: "When the first alarm comes, over all values",
-    "aria-label": `The first alarm over all values of ${name}`, onclick: () => act("sweep", name) });
+  const button = make("button", { type: "button", class: "quiet over", title: "When the first alarm comes, and whether a deadline is missed, over all values",
+    "aria-label": `What comes of all values of ${name}`, onclick: () => act("sweep", name) });
   const box = make("div", {}, make("label", { title: what }, make("span", {}, name), field, output), button);
   const row = { box, field, output, button, number };
   rows.set(name, row);
@@ -181,7 +184,7 @@ function ask(name) {
 function cameOf(run, count) {
   const told = outcomeOf(run, count).replace(/, in request [0-9]+/, "").replace(", the first one:", ", first").replace("at most ", "").replace("core sets", "sets");
   if (run.isFilling || run.bench.job.every((it) => it.deadline === undefined)) return `${told}.`;
-  return `${told}; ${counted(jobsOf(run, count).reduce((sum, it) => sum + it.missed, 0), "deadline")} missed.`;
+  return `${told}; ${counted(missedIn(run, count), "deadline")} missed.`;
 }
 
 /** The sliders of a run, what came of it beside what was, and how it differs from its document. @param {State} now @param {State} before */
@@ -192,7 +195,9 @@ export function whatIf(now, before) {
     const isSame = numbers.length === rows.size && numbers.every((it) => rows.has(it.name));
     if (!isSame) {
       rows.clear();
-      fill("sliders", numbers.map(rowOf));
+      const [others, priorities] = [false, true].map((is) => numbers.filter((it) => (it.what === WHAT.priority) === is).map(rowOf));
+      const isOpen = run.bench.job.some((it) => it.deadline !== undefined);
+      fill("sliders", [...others, ...(priorities.length === 0 ? [] : [make("details", { open: isOpen }, make("summary", {}, "Priorities"), ...priorities)])]);
     }
     numbers.forEach(draw);
     set(by("differs"), differencesOf(run));
@@ -262,10 +267,11 @@ export function differencesOf(run) {
     add(`${visible(it.name ?? it.at)} costs`, overTime(run, (one) => costText(one.job[k]?.cost ?? 0)), costText(it.cost)));
   add("seed", overTime(run, (one) => String(one.seed)), String(given.seed));
   add("core sets", String(bench.sets ?? 7), String(given.sets ?? 7));
-  const periods = periodsOf(given);
-  periodsOf(bench).forEach((it, k) => {
-    if (periods[k]?.name === it.name) add(it.name, seconds(it.value), seconds(periods[k].value));
-  });
+  const documents = [...periodsOf(given), ...prioritiesOf(given, given.job)];
+  for (const it of [...periodsOf(bench), ...prioritiesOf(bench, bench.job)]) {
+    const its = documents.find(({ name, own }) => name === it.name && own === it.own);
+    if (its !== undefined) add(it.name, valueText(it, it.value), valueText(it, its.value));
+  }
   for (const it of given.event) {
     if (!bench.event.some((one) => one.at === it.at && one.name === it.name)) {
       found.push(`without ${visible(it.name ?? `the event at ${seconds(it.at)}`)}`);

@@ -6,7 +6,7 @@ import { assign, button, by, fill, make, set, withCode, withNumbers } from "./do
 import { FIRST_ASKED } from "./first.js";
 import { GUESSES } from "./guesses.js";
 import { loadOf } from "./job-table.js";
-import { jobsOf } from "./jobs.js";
+import { jobsOf, missedIn, priorityOf, withPriority } from "./jobs.js";
 import { pieceOf } from "./pieces.js";
 import { predictionOf, verdictOf } from "./predict.js";
 import { LOG_FULL } from "./run.js";
@@ -21,8 +21,7 @@ const SEEN = "agc-workbench-guide";
 const FULL = { 0o1201: "all five VAC areas, which some jobs need for larger work, are taken", 0o1203: "the Waitlist is full" };
 
 /** The greatest priority, and how many events may be left out. */
-const MOST_URGENT = "37";
-const MOST_EVENTS = 2;
+const [MOST_URGENT, MOST_EVENTS] = [31, 2];
 
 /** Whether the tour was seen before. */
 export function isTourSeen() {
@@ -139,9 +138,9 @@ function atBeginning({ run, count }, shown) {
 function atLate({ run }, shown) {
   const late = lateOf(run, shown, namesOf(run));
   if (late === null || run.bench.seconds === undefined) return [];
-  const first = new RegExp(`^(novac|findvac) [0-7]+ (?=${octal(late.at, 5)} )`);
-  const task = run.bench.task.map((it) => ({ ...it, action: it.action.map((line) => line.replace(first, `$1 ${MOST_URGENT} `)) }));
-  return task.some((it, k) => it.action.join() !== run.bench.task[k].action.join()) ? [[`${begun(late.name)} before all others?`, "change", { task }, true]] : [];
+  const at = octal(late.at, 5);
+  const isUrgent = [null, MOST_URGENT].includes(priorityOf(run.bench, at));
+  return isUrgent ? [] : [[`${begun(late.name)} before all others?`, "change", withPriority(run.bench, at, MOST_URGENT), true]];
 }
 
 /** At an alarm: what might have prevented it. @param {State} now @param {any} shown @returns {Try[]} */
@@ -174,7 +173,7 @@ let drawn = "";
 /** What came of a change, in a sentence, at the row at which it was made; nothing where none was. @param {State} now */
 function changeText({ run, count, at, before, moved, clock }) {
   if (before === null || moved.run !== run || moved.at !== at || run.isFilling || clock.isRunning || run.bench.seconds === undefined) return "";
-  const [then, now] = [before, { run, count }].map((it) => ({ load: loadOf(it.run), missed: jobsOf(it.run, it.count).reduce((sum, row) => sum + row.missed, 0),
+  const [then, now] = [before, { run, count }].map((it) => ({ load: loadOf(it.run), missed: missedIn(it.run, it.count),
     alarms: it.run.alarms.filter((row) => row <= it.count).length }));
   const load = `${then.load === now.load ? "Same load," : "A load of"} ${now.load} %`;
   const said = now.missed > 0 ? `${counted(now.missed, "deadline")} missed, ${then.missed} before.` : then.missed > 0 ? "nothing is late now."

@@ -1,9 +1,9 @@
 /**
  * The strip under a slider: for each value across when the first alarm comes, the later the higher; a second line
- * is for eight core sets, or for seven where there are eight. It is computed in the background, a moment at a time.
+ * is for eight core sets, or for seven where there are eight; and along the bottom for which values a deadline is
+ * missed. It is computed in the background, a moment at a time.
  *
- * @typedef {import("./state.js").State} State
- * @typedef {import("./sweep.js").First} First
+ * @typedef {import("./sweep.js").Firsts} Firsts
  * @typedef {{ name: string, min: number, max: number, value: number, unit: string, given: (value: number) => any }} SliderNumber
  */
 import { writeBench } from "./bench.js";
@@ -11,47 +11,41 @@ import { paint, textWidth } from "./drawing-pens.js";
 import { attribute, make, set } from "./dom.js";
 import { act, state } from "./state.js";
 import { themeNow } from "./stage.js";
-import { firstAlarm, valuesOf } from "./sweep.js";
-import { octal, seconds } from "./words.js";
+import { firstsOf, valuesOf } from "./sweep.js";
+import { octal, seconds, took, visible } from "./words.js";
 
-/** How high a strip is and how large its text, where the page's is 16 points. */
-const HIGH = 60;
-const TEXT = 13;
+/** How high a strip is, how large its text, and how high what marks missed deadlines, where the page's text is 16 points. */
+const [HIGH, TEXT, LATE] = [60, 13, 5];
 
 /** How far the line is from the edges: a slider's knob is in the middle of its value. */
 const SIDE = 8;
 
 /** How long it computes between two frames, how long it waits for what is more urgent and before it begins, and how often it draws, in milliseconds. */
-const BETWEEN = 8;
-const AFTER = 200;
-const FIRST = 600;
-const DRAWN_EACH = 250;
+const [BETWEEN, AFTER, FIRST, DRAWN_EACH] = [8, 200, 600, 250];
 
-/** What is known of a number of a scenario, by all its other numbers. @type {Map<string, Swept>} */
+/** What is known of a number of a scenario, by all its other numbers; and how many of these are kept. @type {Map<string, Swept>} */
 const known = new Map();
-
-/** How many of these are kept. */
 const MOST_KNOWN = 12;
 
 /** The strips on the page, by the names of their sliders; and whether something is being computed. @type {Map<string, Strip>} */
 const strips = new Map();
 const work = { isDue: false, drawn: 0 };
 
-/** The first alarms for the values of a number, with seven and with eight core sets. */
+/** What comes first for the values of a number, with seven and with eight core sets. */
 class Swept {
   /** @param {import("./bench.js").Bench} bench @param {SliderNumber} number */
   constructor(bench, number) {
-    /** @type {Map<number, First>[]} */
+    /** @type {Map<number, Firsts>[]} */
     this.firsts = [new Map(), new Map()];
     this.bench = bench;
     this.number = number;
     this.runs = valuesOf(number).flatMap((value) => this.runsOf(value));
-    this.steps = /** @type {Generator<undefined, First> | null} */ (null);
+    this.steps = /** @type {Generator<undefined, Firsts> | null} */ (null);
   }
 
   /** @param {number} value */
   runsOf(value) {
-    return [7, 8].map((sets) => ({ value, sets, steps: () => firstAlarm({ ...this.bench, ...this.number.given(value), sets }) }));
+    return [7, 8].map((sets) => ({ value, sets, steps: () => firstsOf({ ...this.bench, ...this.number.given(value), sets }) }));
   }
 
   /** The value that the slider has comes next, if it isn't known. @param {number} value */
@@ -69,9 +63,9 @@ class Swept {
   go() {
     const [{ value, sets, steps }] = this.runs;
     this.steps ??= steps();
-    const { done, value: first } = this.steps.next();
+    const { done, value: found } = this.steps.next();
     if (!done) return;
-    this.firsts[sets - 7].set(value, first);
+    this.firsts[sets - 7].set(value, found);
     this.runs.shift();
     this.steps = null;
   }
@@ -102,15 +96,22 @@ class Strip {
 
   /** What comes with a value. @param {number} value */
   told(value) {
-    const { unit } = this.number;
-    const at = unit === "cs" ? seconds(value) : unit === "" ? String(value) : `${value} ${unit}`;
+    const at = valueText(this.number, value);
     const [own, other] = this.firsts.map((it) => it.get(value));
     if (own === undefined) return `${at}: not computed yet`;
-    const more = other === undefined || other?.time === own?.time ? "" : `; with ${15 - this.sets} sets ${firstText(other)}`;
-    return `${at}: ${firstText(own)}${more}`;
+    const more = other === undefined || other.alarm?.time === own.alarm?.time ? "" : `; with ${15 - this.sets} sets ${alarmText(other)}`;
+    return `${at}: ${this.lateText(own)}${alarmText(own)}${more}`;
   }
 
-  /** The first alarms with the core sets that there are, and with the other number of them. @returns {Map<number, First>[]} */
+  /** Which deadline is missed first, where there are some. @param {Firsts} firsts */
+  lateText({ missed }) {
+    const { job } = this.swept?.bench ?? { job: [] };
+    if (missed === null) return job.some((it) => it.deadline !== undefined) ? "no deadline missed; " : "";
+    const name = job.find((it) => parseInt(it.at, 8) === missed.at)?.name ?? octal(missed.at, 5);
+    return `first missed deadline ${took(missed.due)} (${visible(name)}); `;
+  }
+
+  /** What comes first with the core sets that there are, and with the other number of them. @returns {Map<number, Firsts>[]} */
   get firsts() {
     const [seven, eight] = this.swept?.firsts ?? [new Map(), new Map()];
     return this.sets === 8 ? [eight, seven] : [seven, eight];
@@ -123,50 +124,73 @@ class Strip {
     const size = parseFloat(getComputedStyle(document.documentElement).fontSize) / 16;
     paint(canvas, /** @type {any} */ ({ width, height: size * HIGH, theme: themeNow(), marks: marksOf({ firsts, isDone: swept.isDone, number }, width, size) }));
     set(this.said, `At ${this.told(number.value)}`);
-    attribute(canvas, "aria-label", `When the first alarm comes, over ${number.name}: ${upTo({ firsts, number })}. ${this.said.textContent}`);
+    attribute(canvas, "aria-label", `When the first alarm comes, over ${number.name}: ${toldOf({ firsts, isDone: true, number }).join(", ")}. ${this.said.textContent}`);
     canvas.dataset.done = swept.isDone ? "yes" : "no";
   }
 }
 
-/** @param {First} first */
-function firstText(first) {
-  return first === null ? "no alarm" : `${octal(first.code, 4)} at ${seconds(first.time)}`;
+/** A value of a number, with its unit. @param {{ unit: string }} number @param {number} value */
+export function valueText({ unit }, value) {
+  return unit === "cs" ? seconds(value) : `${value} ${unit}`.trim();
 }
 
-/** Up to which value no alarm comes, of those that are known. @param {{ firsts: Map<number, First>[], number: SliderNumber }} swept */
-function upTo({ firsts: [own], number: { unit } }) {
-  const values = [...own.keys()].sort((one, other) => one - other);
-  const first = values.findIndex((it) => own.get(it) !== null);
-  if (first < 1) return first < 0 ? "none with any value" : "with each value";
-  return `none up to ${unit === "cs" ? seconds(values[first - 1]) : `${values[first - 1]} ${unit}`.trim()}`;
+/** @param {Firsts} firsts */
+function alarmText({ alarm }) {
+  return alarm === null ? "no alarm" : `${octal(alarm.code, 4)} at ${seconds(alarm.time)}`;
+}
+
+/** The values that are known. @param {Map<number, Firsts>} own */
+const valuesIn = (own) => [...own.keys()].sort((one, other) => one - other);
+
+/**
+ * Up to which value no alarm comes, and for which a deadline is missed, of those that are known; nothing where none is.
+ * @param {{ firsts: Map<number, Firsts>[], isDone: boolean, number: SliderNumber }} swept
+ */
+function toldOf({ firsts: [own], isDone, number }) {
+  const values = valuesIn(own);
+  const [first, from, to] = [values.findIndex((it) => own.get(it)?.alarm !== null), values.findIndex((it) => own.get(it)?.missed !== null),
+    values.findIndex((it, k) => own.get(it)?.missed !== null && own.get(values[k + 1])?.missed === null)];
+  const text = (/** @type {number} */ k) => valueText(number, values[k]);
+  const none = !isDone ? "no alarm" : first < 0 ? "no alarm with any value" : first === 0 ? "an alarm with each value" : `no alarm up to ${text(first - 1)}`;
+  const misses = !isDone ? "misses" : from > 0 ? `misses from ${text(from)}` : to < 0 ? "misses with each value" : `misses up to ${text(to)}`;
+  return from < 0 ? [none] : [none, misses];
+}
+
+/** Where values lie of which something holds: from edge to edge, and which is the first. @param {number[]} values @param {number[]} edges @param {(value: number) => boolean} holds */
+function zonesOf(values, edges, holds) {
+  /** @type {{ x: number, width: number }[]} */
+  const zones = [];
+  values.forEach((it, k) => {
+    if (!holds(it)) return;
+    const last = zones.at(-1);
+    if (last !== undefined && last.x + last.width === edges[k]) last.width = edges[k + 1] - last.x;
+    else zones.push({ x: edges[k], width: edges[k + 1] - edges[k] });
+  });
+  return zones;
 }
 
 /**
  * The strip as marks of a picture.
- * @param {{ firsts: Map<number, First>[], isDone: boolean, number: SliderNumber }} swept @param {number} width
+ * @param {{ firsts: Map<number, Firsts>[], isDone: boolean, number: SliderNumber }} swept @param {number} width
  * @param {number} size how many times as large it is
  * @returns {import("./drawing.js").Mark[]}
  */
 function marksOf(swept, width, size) {
-  const { firsts, isDone, number: { min, max, value } } = swept;
+  const { firsts, number: { min, max, value } } = swept;
   const [high, text] = [size * HIGH, size * TEXT];
   const xOf = (/** @type {number} */ it) => SIDE + ((it - min) / (max - min)) * (width - 2 * SIDE);
-  const times = firsts.flatMap((it) => [...it.values()].flatMap((first) => first?.time ?? []));
+  const times = firsts.flatMap((it) => [...it.values()].flatMap(({ alarm }) => alarm?.time ?? []));
   const most = Math.max(1, ...times);
-  const yOf = (/** @type {number} */ time) => high - 3 - (time / most) * (high - 9 - text);
-  const sorted = [...firsts[0].keys()].sort((one, other) => one - other);
+  const sorted = valuesIn(firsts[0]);
   // (what is known of a value holds halfway to the next one that was tried)
-  const edges = sorted.map((it, k) => (k === 0 ? 0 : (xOf(sorted[k - 1]) + xOf(it)) / 2));
+  const edges = [...sorted.map((it, k) => (k === 0 ? 0 : (xOf(sorted[k - 1]) + xOf(it)) / 2)), width];
+  const late = zonesOf(sorted, edges, (it) => firsts[0].get(it)?.missed !== null);
+  const free = zonesOf(sorted, edges, (it) => firsts[0].get(it)?.alarm === null);
+  const low = high - 3 - (late.length > 0 ? size * LATE + text : 0);
+  const yOf = (/** @type {number} */ time) => low - (time / most) * (low - 6 - text);
   /** @type {any[]} */
-  const marks = [];
-  let none = /** @type {any} */ (undefined);
-  sorted.forEach((it, k) => {
-    if (firsts[0].get(it) !== null) return;
-    const end = edges[k + 1] ?? width;
-    if (none?.x + none?.width === edges[k]) none.width = end - none.x;
-    else marks.push(none = { kind: "rect", x: edges[k], y: 0, width: end - edges[k], height: high, fill: "work" });
-  });
-  marks.push({ kind: "rect", x: 0, y: high - 1, width, height: 1, fill: "line" });
+  const marks = [...free.map((it) => ({ kind: "rect", y: 0, height: high, fill: "work", ...it })), { kind: "rect", x: 0, y: high - 1, width, height: 1, fill: "line" },
+    ...late.map((it) => ({ kind: "rect", y: high - size * LATE, height: size * LATE, fill: "alarm", ...it }))];
   for (const [k, look] of /** @type {const} */ ([[1, { stroke: "curve", width: 1, isDashed: true }], [0, { stroke: "alarm", width: 2 }]])) {
     /** @type {number[][]} */
     let points = [];
@@ -175,21 +199,26 @@ function marksOf(swept, width, size) {
       if (points.length > 0) marks.push({ kind: "path", points, ...look });
       points = [];
     };
-    for (const it of [...firsts[k].keys()].sort((one, other) => one - other)) {
-      const first = firsts[k].get(it) ?? null;
-      if (first === null) end();
-      else points.push([xOf(it), yOf(first.time)]);
+    for (const it of valuesIn(firsts[k])) {
+      const alarm = firsts[k].get(it)?.alarm ?? null;
+      if (alarm === null) end();
+      else points.push([xOf(it), yOf(alarm.time)]);
     }
     end();
   }
   if (times.length > 0) marks.push({ kind: "text", x: width - 2, y: text, text: seconds(most), size: text, fill: "soft", anchor: "end" });
-  if (none !== undefined) {
-    const told = isDone ? upTo(swept) : "none";
-    const isIn = textWidth(told, text) < none.width - 8;
-    marks.push({ kind: "text", x: isIn ? none.x + 4 : none.x + none.width + 34, y: isIn ? high - 6 : text, text: told, size: text, fill: "soft" });
+  const [none, misses] = toldOf(swept);
+  const last = free.at(-1);
+  if (last !== undefined) {
+    const isIn = textWidth(none, text) < last.width - 8;
+    marks.push({ kind: "text", x: isIn ? last.x + 4 : last.x + last.width + 34, y: isIn && late.length === 0 ? high - 6 : text, text: none, size: text, fill: "soft" });
   }
-  const here = firsts[0].get(value);
-  if (here !== undefined) marks.push({ kind: "path", points: dot(xOf(value), here === null ? text / 2 : yOf(here.time)), fill: "act", stroke: "paper", width: 1.5 });
+  if (late.length > 0) {
+    const x = Math.max(4, Math.min(late[0].x + 4, width - 4 - textWidth(misses, text)));
+    marks.push({ kind: "text", x, y: high - size * LATE - 4, text: misses, size: text, fill: "alarm" });
+  }
+  const here = firsts[0].get(value)?.alarm;
+  if (here !== undefined) marks.push({ kind: "path", points: dot(xOf(value), here === null ? high / 3 : yOf(here.time)), fill: "act", stroke: "paper", width: 1.5 });
   return marks;
 }
 

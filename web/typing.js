@@ -85,8 +85,7 @@ export class Prompt {
   show(lines) {
     this.chosen = -1;
     this.lines = lines.length === 1 && lines[0] === this.field.value ? [] : lines;
-    fill("offers", this.lines.map((it, k) => make("li", {
-      ...{ role: "option", id: `offer-${k}`, "aria-selected": "false" },
+    fill("offers", this.lines.map((it, k) => make("li", { role: "option", id: `offer-${k}`, "aria-selected": "false",
       onmousedown: (/** @type {Event} */ event) => {
         event.preventDefault();
         this.take(it);

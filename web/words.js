@@ -24,15 +24,11 @@ export function octal(number, digits) {
 }
 
 /** What a field for a part is called. */
-const LABELS = {
-  ...{ P: "Priority", A: "Address", W: "Bank", D: "Centiseconds", K: "Place", G: "Group", N: "Phase" },
-};
+const LABELS = { P: "Priority", A: "Address", W: "Bank", D: "Centiseconds", K: "Place", G: "Group", N: "Phase" };
 
 /** @type {Record<string, Part>} */
-export const PARTS = Object.fromEntries(Object.entries(SPELLED).map(([letter, it]) => [letter, {
-  ...{ name: letter, label: LABELS[/** @type {keyof typeof LABELS} */ (letter)], sentence: it.sentence },
-  is: (/** @type {string} */ text) => spells(text, letter),
-}]));
+export const PARTS = Object.fromEntries(Object.entries(SPELLED).map(([letter, { sentence }]) => [letter, {
+  name: letter, label: LABELS[/** @type {keyof typeof LABELS} */ (letter)], sentence, is: (/** @type {string} */ text) => spells(text, letter) }]));
 
 /** Each request's form: its word, and what follows. */
 export const FORMS = new Map([...SPELLINGS].filter(([, { kind }]) => kind !== 0)
@@ -98,6 +94,9 @@ export function visible(text) {
 export function seconds(centiseconds) {
   return `${(centiseconds / 100).toFixed(2)} s`;
 }
+
+/** A time in seconds, from hundredths of a centisecond, to the nearest centisecond. @param {number} hundredths */
+export const took = (hundredths) => seconds(Math.round(hundredths / 100));
 
 /** A count and what is counted: `1 request`, `12 requests`. @param {number} count @param {string} what */
 export function counted(count, what) {

@@ -12,6 +12,7 @@ import { KEPT, Page, script } from "./state.mjs";
 const MANY = 2000;
 const FINDVAC = "findvac 20 02100 00005";
 const TIMED = `seconds = 2\nsteal = 40\n[[job]]\nat = "04000"\ncost = 190\n[[event]]\nat = 0\ndo = "novac 20 04000 00005"\n`;
+const LOTS = `seconds = 1\nseed = 3\n[[job]]\nname = "WORK"\nat = "04000"\ncost = { from = 1, to = 9 }\n[[event]]\nname = "WORK"\nat = 0\nevery = 20\ndo = "novac 20 04000 00005"\n`;
 const LETTERS = [..."#&=-_%+/.?0129azAZ é\u2028", "\u{1f680}", ""];
 
 /** What is in a recipe in place of something else. @type {any[]} */
@@ -61,7 +62,7 @@ async function opened(mark) {
 }
 
 test("whatever is behind #, there is a run or a fault that can be told", async () => {
-  const pages = [new Page(TIMED).slide("Stolen time", 30), new Page(TIMED).act("ask", FINDVAC).slide("Core sets", 8).act("ask", FINDVAC),
+  const pages = [new Page(TIMED).slide("Stolen time", 30), new Page(LOTS).slide("Seed", 9).slide("WORK every", 30).slide("WORK priority", 5).slide("Stolen time", 10), new Page(TIMED).act("ask", FINDVAC).slide("Core sets", 8).act("ask", FINDVAC),
     new Page("#waitlist-full").act("ask", FINDVAC), new Page("#exercise-2").act("reveal").act("ask", FINDVAC), new Page(script([])).act("ask", "tick").act("ask", FINDVAC)];
   const made = await Promise.all(pages.map(async (it) => `#${await documentMark(it.now, KEPT, "", false)}`));
   assert.ok(made.every((it) => it.includes("&do=")), made.join("\n"));

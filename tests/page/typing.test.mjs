@@ -53,7 +53,7 @@ test("sliders have names that tell them apart, and bounds of their own", () => {
     .map(({ name, min, max, value }) => `${name} ${min} ${max} ${value}`);
   const [stolen, sets] = ["Stolen time 0 100 0", "Core sets 7 8 7"];
   for (const [text, wanted] of /** @type {[string, string[]][]} */ ([
-    [twins, [stolen, "WORK needs (04000) 1 400 10", "WORK needs (05000) 1 400 20", "WORK every 1 400 60", sets]],
+    [twins, [stolen, "WORK needs (04000) 1 400 10", "WORK needs (05000) 1 400 20", "WORK every 1 400 60", sets, "WORK priority (04000) 1 31 16", "WORK priority (05000) 1 31 17"]],
     [lists("00005", "00005") + lists("00006", "00006"), [stolen, "T every (02000), 2 1 400 9", "T every (02000), 3 1 400 9", sets]],
     [lists("00005", "00006"), [stolen, sets]], [job("04000", "cost = 1000"), [stolen, "04000 needs 1 2000 1000", sets]],
     [`seed = 7\n${job("05000", "cost = { from = 1, to = 9 }")}${tick}`, [stolen, "Seed 1 100 7", sets]],
@@ -67,6 +67,10 @@ test("sliders have names that tell them apart, and bounds of their own", () => {
   const [, , second] = numbersOf(run);
   run.change(second.given(29), second.given(29));
   assert.match(differencesOf(run), /^This run differs from its document: .*WORK costs .*0[.]37 s \(document: 0[.]10 s\); WORK costs .*0[.]29 s \(document: 0[.]20 s\)\.$/);
+  const urgent = numbersOf(run).find((it) => it.name === "WORK priority (05000)");
+  run.bench = { ...run.bench, ...urgent?.given(31) };
+  assert.deepEqual(run.bench.event[0].do, ["novac 20 04000 00005", "novac 37 05000 00005"]);
+  assert.match(differencesOf(run), /; WORK priority 31 \(document: 17\)\.$/);
 });
 
 test("the field's words are told as docs/MODEL.md has them", () => {

@@ -19,7 +19,7 @@ def try_panel(browser, trial):
     stops at an alarm."""
     open_text(browser, PANEL)
     told = browser.value(SLIDERS)
-    trial.expect(told, told == "Stolen time 0 100 50 50 % 50 %, WORK needs 1 400 10 0.10 s 0.10 s, 05000 needs 1 600 300 3.00 s 3.00 s, Core sets 7 8 7 7 7")
+    trial.expect(told, told == "Stolen time 0 100 50 50 % 50 %, WORK needs 1 400 10 0.10 s 0.10 s, 05000 needs 1 600 300 3.00 s 3.00 s, Core sets 7 8 7 7 7, WORK priority 1 31 16 16 16, 05000 priority 1 31 16 16 16")
     for value in 37, 10:
         browser.value("(() => { const it = document.querySelectorAll('#sliders input')[1];"
                       f" it.value = '{value}'; it.dispatchEvent(new Event('input')); }})()")

@@ -50,7 +50,7 @@ def try_strips(browser, trial):
         browser.wait(done.format(0))
         trial.same(f"a click at {part}", (browser.value(f"{said}[0].textContent"), browser.value("document.querySelector('#sliders input').value")), (wanted, str(part)))
     named = browser.value("document.querySelector('.strip').ariaLabel")
-    trial.expect(f"the strip's name: {named}", named.startswith("When the first alarm comes, over Stolen time: none up to 3 %. At 15 %: 1202 at"))
+    trial.expect(f"the strip's name: {named}", named.startswith("When the first alarm comes, over Stolen time: no alarm up to 3 %. At 15 %: 1202 at"))
     browser.value("document.querySelectorAll('.over')[1].click()")
     browser.wait(said + "[1].textContent.includes('with 8 sets')")
     trial.same("the cost", browser.value(f"{said}[1].textContent"), "At 1.70 s: 1202 at 30.50 s; with 8 sets 1201 at 38.01 s")
@@ -82,6 +82,13 @@ def try_jobs(browser, trial):
     browser.value("document.querySelector('#jobs button').click()")
     # (the first slow job begins at 0.01 s, and has 1.50 s)
     says(browser, trial, "the first that is missed", "at 1.52 s: tick.")
+    trial.expect("priorities are folded where jobs have deadlines", browser.value("document.querySelector('#sliders details').open"))
+    browser.value("Array.from(document.querySelectorAll('.over')).at(-1).click()")
+    browser.wait("Array.from(document.querySelectorAll('.strip')).at(-1).dataset.done === 'yes'")
+    # (from the fast job's priority on, 24, the fast ones are those that pile up)
+    named = browser.value("Array.from(document.querySelectorAll('.strip')).at(-1).ariaLabel")
+    trial.same("the slow job's priority", named, "When the first alarm comes, over slow priority: no alarm up to 23, misses with each value. "
+               "At 8: first missed deadline 1.50 s (slow); no alarm")
     exercise(browser, 10)
     trial.expect("an exercise's jobs are told", browser.value("document.getElementById('jobs-box').hidden"))
     browser.show(browser.value("location.pathname"), "#landing-1202")
@@ -90,10 +97,13 @@ def try_jobs(browser, trial):
 
 
 def try_changes(browser, trial):
-    trial.same("the sliders", texts(browser, "#sliders label span"), "Stolen time|SERVICER needs|display needs|SERVICER every|display every|Core sets")
+    trial.same("the sliders", texts(browser, "#sliders label span"),
+               "Stolen time|SERVICER needs|display needs|SERVICER every|display every|Core sets|SERVICER priority|display priority")
+    folded = browser.value("document.querySelector('#sliders details').open")
+    trial.expect("priorities are unfolded where no job has a deadline", not folded)
     told = browser.value("Array.from(document.querySelectorAll('#sliders label'), (it) => it.title.split(' ').slice(0, 4).join(' ')).join('|')")
     trial.expect(f"what the sliders are about: {told}", told == "What part of the|How much computing time|How much computing time|"
-                 "After how long it|After how long it|How many jobs can")
+                 "After how long it|After how long it|How many jobs can|How urgent it is,|How urgent it is,")
     set_slider(browser, 0)
     told = browser.text("outcome"), browser.text("differs")
     trial.expect(f"at the alarm, none stolen: {told}", "Now: no alarm" in told[0] and told[1] == "This run differs from its document: steal 0 % (document: 15 %).")
