@@ -82,7 +82,11 @@ export function passTime(run, most) {
 /** Asks what the clock asks for next. False where its time is over. @param {Run} run */
 export function step(run) {
   if (run.count >= MOST_ROWS) return false;
-  const request = run.head.clock.next(run.head.machine);
+  const { clock, machine } = run.head;
+  const isFull = !run.hasRoomFor(0);
+  const request = (isFull ? clock.copy() : clock).next(machine);
+  // (a clock isn't asked for what is refused)
+  if (isFull && request !== null && run.refusal(request.text) === 0) clock.next(machine);
   return request !== null && run.ask(request.text, whoOf(run, request.event)) !== null;
 }
 

@@ -69,7 +69,7 @@ function least(run, line) {
 /** The shortest of all orders in which an alarm comes: how many requests, and which. @param {Run} run */
 function shortest({ bench }) {
   const scripts = bench.worker.map((it) => it.script);
-  let reached = [{ machine: new Machine({ sets: bench.sets ?? 7, plan: bench }), at: scripts.map(() => 0) }];
+  let reached = [{ machine: new Machine({ sets: bench.sets ?? 7, plan: { task: bench.task, phase: bench.phase } }), at: scripts.map(() => 0) }];
   for (let count = 1; reached.length > 0; count++) {
     const next = new Map();
     for (const { machine, at } of reached) for (const [k, script] of scripts.entries()) {

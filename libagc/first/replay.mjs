@@ -2,7 +2,7 @@ import { readFileSync } from "node:fs";
 import { Clock, Machine } from "../js/agc.js";
 
 const scenario = JSON.parse(readFileSync(0, "utf8"));
-const machine = new Machine({ sets: scenario.sets, power: scenario.power, plan: scenario });
+const machine = new Machine({ plan: scenario });
 const clock = new Clock(scenario);
 const tell = (time, what) =>
   console.log(`${(time / 100).toFixed(2)} s, request ${machine.totals.served}: ${what}`);

@@ -4,9 +4,9 @@ import tomllib
 from agc import Clock, Machine
 
 scenario = tomllib.load(sys.stdin.buffer)
-machine = Machine(sets=scenario.get("sets"), plan=scenario, power=scenario.get("power"))
+machine = Machine(plan=scenario)
 clock = Clock(scenario)
-for asked, step in machine.run(clock, clock.lasts):
+for asked, step in machine.iter(clock, clock.lasts):
     if step.alarm:
         print(f"{clock.time / 100:.2f} s, request {machine.totals.served}: alarm {step.alarm:o}")
 print(f"{clock.time / 100:.2f} s, request {machine.totals.served}: the end")

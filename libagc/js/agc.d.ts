@@ -1,7 +1,7 @@
 /** tools/bindings had tsc write this from the comments of the modules. */
-/** What a code says, whatever the number.
- * @param {number} code */
-export function codeText(code: number): string;
+/** What a code says, whatever it is.
+ * @param {string} code */
+export function codeText(code: string): string;
 /** What a kind of reply says, whatever the number.
  * @param {number} kind */
 export function replyText(kind: number): string;
@@ -17,9 +17,9 @@ export function start(source: BufferSource | WebAssembly.Module): Promise<void>;
  * no request is thrown.
  * @param {string | Asked} request
  * @param {Bounds} bounds
- * @returns {number}
+ * @returns {string}
  */
-export function refusalOf(request: string | Asked, bounds: Bounds): number;
+export function refusalOf(request: string | Asked, bounds: Bounds): string;
 /**
  * The lines of what a pulse of a device asks for, where `line` is "timer", "key" or "radar": a tick,
  * or what a plan has done for a key or a radar pulse, which is at most four actions.
@@ -56,8 +56,8 @@ export function sceneOf(words: ArrayLike<number>): Scene;
  * @typedef {import("./library.js").NamedTask} PlanTask */
 /** What begins again while a restart group is in a phase.
  * @typedef {import("./library.js").NamedPhase} PlanPhase */
-/** A plan, as a bench has it.
- * @typedef {{ task?: readonly PlanTask[], phase?: readonly PlanPhase[] }} Plan */
+/** A plan, as a bench has it, or a whole bench or scenario.
+ * @typedef {Partial<import("./library.js").Bench & import("./library.js").Scenario>} Plan */
 /** A task of the Waitlist.
  * @typedef {{ at: number, bank: number }} Task */
 /**
@@ -116,7 +116,7 @@ export function sceneOf(words: ArrayLike<number>): Scene;
  * Why no machine begins with words: the code that a call lacks; the rule of lawful words that is broken first, 0 where they are
  * lawful and no request leaves them so; the word's place, from 0, what stands there, and what would have to: null where the
  * other words leave more than one choice.
- * @typedef {{ code: number, rule: number, place: number, found: number, wanted: number | null, text: string }} Finding
+ * @typedef {{ code: string, rule: number, place: number, found: number, wanted: number | null, text: string }} Finding
  */
 /**
  * How many requests were served, and how many are at most; how many were since the last era began, and how many are at
@@ -128,13 +128,27 @@ export const VERSION: "1.0.0";
 /** How many numbers an array of words has, and how many phase words there are. */
 export const WORDS: 144;
 export const PHASE_WORDS: 12;
-/** What was not served. `code` says why, `message` the same as a sentence. */
+/** What was not served, or may not stand in a document. `code` says why, `message` the same as a sentence. */
 export class AgcError extends Error {
-    /** @param {number} code
-   * @param {string} [sentence] */
-    constructor(code: number, sentence?: string | undefined);
-    /** @readonly */
-    readonly code: number;
+    /** @param {string} code
+   * @param {string} [sentence]
+   * @param {{ row?: string | null, key?: string | null }} [place] */
+    constructor(code: string, sentence?: string | undefined, { row, key }?: {
+        row?: string | null | undefined;
+        key?: string | null | undefined;
+    } | undefined);
+    /** The code's name, as "NOT_SPELLED".
+ * @readonly */
+    readonly code: string;
+    /** Its number, as agc.h has it.
+ * @readonly */
+    readonly number: number;
+    /** Which table of a document, as "event 2"; or null.
+ * @readonly */
+    readonly row: string | null;
+    /** Which key of a document, or null.
+ * @readonly */
+    readonly key: string | null;
 }
 /** The name that `AgcError` had. */
 export const Lacking: typeof AgcError;
@@ -168,9 +182,9 @@ export class Step {
 /**
  * A machine: its words, and the plan by which it goes on after an alarm.
  *
- * `plan` has `task` and `phase` as a bench has them, and both may be missing. `power` are the
- * twelve phase words that were found as power came back. `words` are those of an earlier machine,
- * with as many core sets as these have.
+ * `plan` has `task` and `phase` as a bench has them, and both may be missing, or is a whole bench or
+ * scenario, whose `sets` and `power` hold, too. `power` are the twelve phase words that were found as
+ * power came back. `words` are those of an earlier machine, with as many core sets as these have.
  */
 export class Machine {
     /** A machine of what `state` told. Its words are looked at as those from elsewhere are.
@@ -179,7 +193,7 @@ export class Machine {
     /** @param {{ sets?: number, plan?: Plan, power?: readonly (number | string)[], words?: ArrayLike<number> }} given */
     constructor(given?: {
         sets?: number | undefined;
-        plan?: Plan | undefined;
+        plan?: Partial<import("./library.js").Bench & import("./library.js").Scenario> | undefined;
         power?: readonly (string | number)[] | undefined;
         words?: ArrayLike<number> | undefined;
     });
@@ -303,12 +317,9 @@ export type PlanTask = import("./library.js").NamedTask;
  */
 export type PlanPhase = import("./library.js").NamedPhase;
 /**
- * A plan, as a bench has it.
+ * A plan, as a bench has it, or a whole bench or scenario.
  */
-export type Plan = {
-    task?: readonly PlanTask[];
-    phase?: readonly PlanPhase[];
-};
+export type Plan = Partial<import("./library.js").Bench & import("./library.js").Scenario>;
 /**
  * A task of the Waitlist.
  */
@@ -418,7 +429,7 @@ export type ClockState = {
  * other words leave more than one choice.
  */
 export type Finding = {
-    code: number;
+    code: string;
     rule: number;
     place: number;
     found: number;

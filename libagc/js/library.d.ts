@@ -74,28 +74,34 @@
 /** @typedef {{ from: number, to: number }} Cost */
 /** @typedef {{ at: string | number, cost: number, deadline?: number, then?: string | readonly string[], name?: string }} Job */
 /** @typedef {{ at: number, after?: string, do: string | readonly string[], every?: number, until?: number, name?: string }} Event */
-/** What a call lacked: the first that applies. */
+/** What a call or a document lacked: the first that applies. */
 export const Code: Readonly<{
-    OK: 0;
-    NO_SUCH_SETS: 1;
-    NOT_WORDS: 2;
-    UNLAWFUL: 3;
-    OUT_OF_RANGE: 4;
-    NOT_A_WORD: 5;
-    NOT_NOW: 6;
-    UNTIDY: 8;
-    PLAN_RANGE: 9;
-    TASK_TWICE: 10;
-    PHASE_TWICE: 11;
-    TOO_MANY_AREAS: 12;
-    NOT_SPELLED: 13;
-    NO_ROOM: 14;
-    TIME_RANGE: 15;
-    STEAL_TWICE: 16;
-    COST_TWICE: 17;
-    SPENT: 19;
-    LOG_FULL: 20;
+    OK: "OK";
+    NO_SUCH_SETS: "NO_SUCH_SETS";
+    NOT_WORDS: "NOT_WORDS";
+    UNLAWFUL: "UNLAWFUL";
+    OUT_OF_RANGE: "OUT_OF_RANGE";
+    NOT_A_WORD: "NOT_A_WORD";
+    NOT_NOW: "NOT_NOW";
+    UNTIDY: "UNTIDY";
+    PLAN_RANGE: "PLAN_RANGE";
+    TASK_TWICE: "TASK_TWICE";
+    PHASE_TWICE: "PHASE_TWICE";
+    TOO_MANY_AREAS: "TOO_MANY_AREAS";
+    NOT_SPELLED: "NOT_SPELLED";
+    NO_ROOM: "NO_ROOM";
+    TIME_RANGE: "TIME_RANGE";
+    STEAL_TWICE: "STEAL_TWICE";
+    COST_TWICE: "COST_TWICE";
+    SPENT: "SPENT";
+    LOG_FULL: "LOG_FULL";
+    UNKNOWN_KEY: "UNKNOWN_KEY";
+    MISSING_KEY: "MISSING_KEY";
+    WRONG_TYPE: "WRONG_TYPE";
 }>;
+/** The numbers of codes.
+ * @type {Record<string, number>} */
+export const CODE_NUMBERS: Record<string, number>;
 /** The kinds of replies. */
 export const Kind: Readonly<{
     ESTABLISHED: 1;
@@ -113,10 +119,10 @@ export const Kind: Readonly<{
     TICK_ALARMED: 13;
     RESTARTED: 14;
 }>;
-/** Texts, by their numbers.
- * @type {Record<number, string>} */
-export const CODE_TEXTS: Record<number, string>;
-/** Texts, by their numbers.
+/** Texts, by the codes' names.
+ * @type {Record<string, string>} */
+export const CODE_TEXTS: Record<string, string>;
+/** Texts, by the kinds' numbers.
  * @type {Record<number, string>} */
 export const REPLY_TEXTS: Record<number, string>;
 /** How many there are of what, and the places of words. */

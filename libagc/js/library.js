@@ -76,8 +76,34 @@
 /** @typedef {{ at: string | number, cost: number, deadline?: number, then?: string | readonly string[], name?: string }} Job */
 /** @typedef {{ at: number, after?: string, do: string | readonly string[], every?: number, until?: number, name?: string }} Event */
 
-/** What a call lacked: the first that applies. */
+/** What a call or a document lacked: the first that applies. */
 export const Code = Object.freeze({
+  OK: "OK",
+  NO_SUCH_SETS: "NO_SUCH_SETS",
+  NOT_WORDS: "NOT_WORDS",
+  UNLAWFUL: "UNLAWFUL",
+  OUT_OF_RANGE: "OUT_OF_RANGE",
+  NOT_A_WORD: "NOT_A_WORD",
+  NOT_NOW: "NOT_NOW",
+  UNTIDY: "UNTIDY",
+  PLAN_RANGE: "PLAN_RANGE",
+  TASK_TWICE: "TASK_TWICE",
+  PHASE_TWICE: "PHASE_TWICE",
+  TOO_MANY_AREAS: "TOO_MANY_AREAS",
+  NOT_SPELLED: "NOT_SPELLED",
+  NO_ROOM: "NO_ROOM",
+  TIME_RANGE: "TIME_RANGE",
+  STEAL_TWICE: "STEAL_TWICE",
+  COST_TWICE: "COST_TWICE",
+  SPENT: "SPENT",
+  LOG_FULL: "LOG_FULL",
+  UNKNOWN_KEY: "UNKNOWN_KEY",
+  MISSING_KEY: "MISSING_KEY",
+  WRONG_TYPE: "WRONG_TYPE",
+});
+
+/** The numbers of codes. @type {Record<string, number>} */
+export const CODE_NUMBERS = Object.freeze({
   OK: 0,
   NO_SUCH_SETS: 1,
   NOT_WORDS: 2,
@@ -97,6 +123,9 @@ export const Code = Object.freeze({
   COST_TWICE: 17,
   SPENT: 19,
   LOG_FULL: 20,
+  UNKNOWN_KEY: 101,
+  MISSING_KEY: 102,
+  WRONG_TYPE: 103,
 });
 
 /** The kinds of replies. */
@@ -117,30 +146,33 @@ export const Kind = Object.freeze({
   RESTARTED: 14,
 });
 
-/** Texts, by their numbers. @type {Record<number, string>} */
+/** Texts, by the codes' names. @type {Record<string, string>} */
 export const CODE_TEXTS = Object.freeze({
-  0: "the call was served",
-  1: "the number of core sets is neither 7 nor 8",
-  2: "a number of the image is above 077777",
-  3: "the image isn't lawful, or the phase words don't agree",
-  4: "a number of the call is out of its range",
-  5: "a word of the call is above 077777",
-  6: "a task is due, or none is where one has to be",
-  8: "the image is lawful, and no step leaves it so",
-  9: "a number of the plan is out of its range",
-  10: "a task has two rows of the plan",
-  11: "a group's phase has two entries of the plan",
-  12: "each of six groups wants a VAC area, and there are five",
-  13: "the line spells no request",
-  14: "the text doesn't fit into the room that is lent",
-  15: "a number of the timetable is out of its range",
-  16: "two rows of stolen time hold at one time",
-  17: "one address has two costs",
-  19: "as many requests were served as the allowance says",
-  20: "the log is full, which only a restart or a fresh start empties",
+  OK: "the call was served",
+  NO_SUCH_SETS: "the number of core sets is neither 7 nor 8",
+  NOT_WORDS: "a number of the image is above 077777",
+  UNLAWFUL: "the image isn't lawful, or the phase words don't agree",
+  OUT_OF_RANGE: "a number of the call is out of its range",
+  NOT_A_WORD: "a word of the call is above 077777",
+  NOT_NOW: "a task is due, or none is where one has to be",
+  UNTIDY: "the image is lawful, and no step leaves it so",
+  PLAN_RANGE: "a number of the plan is out of its range",
+  TASK_TWICE: "a task has two rows of the plan",
+  PHASE_TWICE: "a group's phase has two entries of the plan",
+  TOO_MANY_AREAS: "each of six groups wants a VAC area, and there are five",
+  NOT_SPELLED: "the line spells no request",
+  NO_ROOM: "the text doesn't fit into the room that is lent",
+  TIME_RANGE: "a number of the timetable is out of its range",
+  STEAL_TWICE: "two rows of stolen time hold at one time",
+  COST_TWICE: "one address has two costs",
+  SPENT: "as many requests were served as the allowance says",
+  LOG_FULL: "the log is full, which only a restart or a fresh start empties",
+  UNKNOWN_KEY: "a key of the document is unknown",
+  MISSING_KEY: "a key of the document is missing",
+  WRONG_TYPE: "a value of the document is of the wrong type",
 });
 
-/** Texts, by their numbers. @type {Record<number, string>} */
+/** Texts, by the kinds' numbers. @type {Record<number, string>} */
 export const REPLY_TEXTS = Object.freeze({
   1: "a job was established",
   2: "the running job ended or sleeps, and another runs",

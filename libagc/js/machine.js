@@ -5,15 +5,16 @@
  * `agc.js` hands all this on with its module loaded. Whoever has the module's bytes elsewhere, as a
  * page that carries them within itself, imports this file and awaits `start(bytes)` first.
  *
- * What isn't served is thrown as `AgcError`, with a code and a sentence; the machine is then as it
- * was. What isn't of the right type, or a key that isn't known, is a `TypeError`. agc.h and
- * docs/EMBEDDING.md say what each call means. tools/bindings writes agc.d.ts from this file.
+ * What isn't served, and whatever is wrong in a document, is thrown as `AgcError`, with a code and a
+ * sentence; the machine is then as it was. An argument of the wrong type, such as null for a machine,
+ * is a `TypeError`. agc.h and docs/EMBEDDING.md say what each call means. tools/bindings writes
+ * agc.d.ts from this file.
  */
 import {
-  ACTION_KINDS, CODE_TEXTS, Code, DEVICES, FORMS, JOB_KINDS, KEYS, Kind, LAYOUT, LEAVING_KINDS, LISTING_KINDS, NUMBERS,
+  ACTION_KINDS, CODE_NUMBERS, CODE_TEXTS, Code, DEVICES, FORMS, JOB_KINDS, KEYS, Kind, LAYOUT, LEAVING_KINDS, LISTING_KINDS, NUMBERS,
   PARTS, PLACES, REPLY_TEXTS, REQUEST_KINDS, STEP_KINDS,
 } from "./library.js";
-import { lineFault, nearest } from "./lines.js";
+import { countFault, isPlain, lineFault, nearest, shown, spells } from "./lines.js";
 
 export { Code, Kind };
 
@@ -23,7 +24,7 @@ export { Code, Kind };
 
 /** What begins again while a restart group is in a phase. @typedef {import("./library.js").NamedPhase} PlanPhase */
 
-/** A plan, as a bench has it. @typedef {{ task?: readonly PlanTask[], phase?: readonly PlanPhase[] }} Plan */
+/** A plan, as a bench has it, or a whole bench or scenario. @typedef {Partial<import("./library.js").Bench & import("./library.js").Scenario>} Plan */
 
 /** A task of the Waitlist. @typedef {{ at: number, bank: number }} Task */
 
@@ -94,7 +95,7 @@ export { Code, Kind };
  * Why no machine begins with words: the code that a call lacks; the rule of lawful words that is broken first, 0 where they are
  * lawful and no request leaves them so; the word's place, from 0, what stands there, and what would have to: null where the
  * other words leave more than one choice.
- * @typedef {{ code: number, rule: number, place: number, found: number, wanted: number | null, text: string }} Finding
+ * @typedef {{ code: string, rule: number, place: number, found: number, wanted: number | null, text: string }} Finding
  */
 
 /**
@@ -110,7 +111,7 @@ export const VERSION = "1.0.0";
 export const WORDS = NUMBERS.WORDS;
 export const PHASE_WORDS = NUMBERS.PHASE_WORDS;
 
-/** What a code says, whatever the number. @param {number} code */
+/** What a code says, whatever it is. @param {string} code */
 export function codeText(code) {
   return CODE_TEXTS[code] ?? "no call answers this code";
 }
@@ -120,14 +121,23 @@ export function replyText(kind) {
   return REPLY_TEXTS[kind] ?? "no reply is of this kind";
 }
 
-/** What was not served. `code` says why, `message` the same as a sentence. */
+/** The name of a code, by its number. @type {Record<number, string>} */
+const CODE_NAMES = Object.fromEntries(Object.entries(CODE_NUMBERS).map(([name, number]) => [number, name]));
+
+/** What was not served, or may not stand in a document. `code` says why, `message` the same as a sentence. */
 export class AgcError extends Error {
-  /** @param {number} code @param {string} [sentence] */
-  constructor(code, sentence) {
+  /** @param {string} code @param {string} [sentence] @param {{ row?: string | null, key?: string | null }} [place] */
+  constructor(code, sentence, { row = null, key = null } = {}) {
     super(sentence || codeText(code));
     this.name = "AgcError";
-    /** @readonly */
+    /** The code's name, as "NOT_SPELLED". @readonly */
     this.code = code;
+    /** Its number, as agc.h has it. @readonly */
+    this.number = CODE_NUMBERS[code];
+    /** Which table of a document, as "event 2"; or null. @readonly */
+    this.row = row;
+    /** Which key of a document, or null. @readonly */
+    this.key = key;
   }
 }
 
@@ -224,18 +234,30 @@ function isStarted() {
 
 // What is given from outside. `what` names it in a message: "job 2: cost".
 
-/** What was given, as a message quotes it. @param {unknown} given */
-function shown(given) {
-  try {
-    return typeof given === "object" || typeof given === "string" ? JSON.stringify(given) : String(given);
-  } catch {
-    return "an object";
+/** A place in a document: as a message names it, its row, and its key. */
+class Place {
+  /** @param {string} text @param {string | null} [row] @param {string | null} [key] */
+  constructor(text, row = null, key = null) {
+    [this.text, this.row, this.key] = [text, row, key];
+  }
+
+  toString() {
+    return this.text;
   }
 }
 
-/** A fault of what isn't of the right type. @param {string} what @param {string} wanted @param {unknown} given */
+/** A key of a row. @param {string} row @param {string} key */
+const keyAt = (row, key) => new Place(`${row}: ${key}`, row, key);
+
+/** What is wrong with what was given for something. @param {string} code @param {string | Place} what @param {string} told */
+function fault(code, what, told) {
+  return new AgcError(code, `${what}${told}`, what instanceof Place ? what : {});
+}
+
+/** Another type than a document has there, or a call takes. @param {string | Place} what @param {string} wanted @param {unknown} given */
 function wrong(what, wanted, given) {
-  return new TypeError(`${what} has to be ${wanted}, and this is ${shown(given)}`);
+  const told = ` must be ${wanted}, not ${shown(given)}`;
+  return what instanceof Place ? fault(Code.WRONG_TYPE, what, told) : new TypeError(`${what}${told}`);
 }
 
 /** Throws where a thing isn't what it has to be. @param {Function} kind @param {string} what @param {unknown} given */
@@ -245,54 +267,66 @@ function isOf(kind, what, given) {
 
 /**
  * An integer in its range, which a message has in octal digits where these are wanted.
- * @param {string} what @param {any} given @param {number} [low] @param {number | bigint} [high] @param {number} [code]
+ * @param {string | Place} what @param {unknown} given @param {number} [low] @param {number | bigint} [high] @param {string} [code]
  * @param {number} [digits]
  * @returns {number}
  */
 function integer(what, given, low = 0, high = MOST, code = Code.OUT_OF_RANGE, digits = 0) {
   // (counts that may be above 2^53 have a bigint as their most)
-  if (!Number.isInteger(given) && !(typeof given === typeof high && typeof high === "bigint")) throw wrong(what, "an integer", given);
-  if (given >= low && given <= high) return given;
-  const [is, least, most] = [given, low, high].map((it) => it.toString(digits === 0 ? 10 : 8));
-  throw new AgcError(code, `${what} is ${is}${digits === 0 ? "" : " (octal)"}, and may be ${least} to ${most}`);
+  const number = /** @type {number} */ (given);
+  if (!Number.isSafeInteger(given) && !(typeof given === "bigint" && typeof high === "bigint")) throw wrong(what, "an integer", given);
+  if (number >= low && number <= high) return number;
+  const [is, least, most] = [number, low, high].map((it) => it.toString(digits === 0 ? 10 : 8));
+  throw fault(code, what, ` is ${is}${digits === 0 ? "" : " (octal)"}, and may be ${least} to ${most}`);
 }
 
-/** A word or an address: a number, or its five octal digits. @param {string} what @param {any} given @param {string} letter @param {number} code */
+/** A word or an address: a number, or its five octal digits. @param {string | Place} what @param {unknown} given @param {string} letter @param {string} code */
 function word(what, given, letter, code) {
-  if (!Number.isInteger(given) && typeof given !== "string") throw wrong(what, "an integer or five octal digits", given);
-  const { low, high, sentence } = PARTS[letter];
-  const number = typeof given === "number" ? given : /^[0-7]{5}$/.test(given) ? parseInt(given, 8) : -1;
-  if (number >= low && number <= high) return number;
-  throw new AgcError(code, `${what}: ${shown(given)}: ${sentence}`);
+  const { low, high, sentence, digits } = PARTS[letter];
+  if (Number.isSafeInteger(given)) return integer(what, given, low, high, code, digits);
+  if (typeof given !== "string") throw wrong(what, "an integer or five octal digits", given);
+  if (spells(given, letter)) return parseInt(given, 8);
+  throw fault(code, what, `: ${shown(given)}: ${sentence}`);
+}
+
+/** What is said of a key that a table of this level doesn't have, as `agc_watch check` says it. @param {string} key @param {string} level @param {string[]} keys */
+function unknown(key, level, keys) {
+  const near = nearest(key, keys);
+  if (level !== "" && DOCUMENT.includes(key)) {
+    if (level === "scenario") return "a bench has it, but no scenario";
+    return level === "bench" ? 'a scenario has it, which has "seconds" too' : "it belongs above all tables";
+  }
+  return near === undefined ? `the keys are ${keys.join(", ")}` : `did you mean "${near}"?`;
 }
 
 /**
  * Throws where what is given isn't an object with some of these keys and no others, and all that are wanted. What is
  * undefined isn't given.
- * @param {string} what @param {any} given @param {string[]} keys @param {string[]} [wanted]
+ * @param {Place} what @param {any} given @param {string[]} keys @param {string[]} [wanted] @param {string} [level]
  */
-function known(what, given, keys, wanted = []) {
-  if (typeof given !== "object" || given === null || Array.isArray(given)) throw wrong(what, "an object", given);
+function known(what, given, keys, wanted = [], level = "") {
+  if (!isPlain(given)) throw wrong(what.row === null ? `${what}` : what, "a plain object", given);
   const other = Object.keys(given).find((it) => given[it] !== undefined && !keys.includes(it));
   if (other !== undefined) {
-    const near = nearest(other, keys);
-    const meant = near === undefined ? `, only ${keys.join(", ")}` : `: is it ${shown(near)}?`;
-    throw new TypeError(`${what} has no key ${shown(other)}${meant}`);
+    const place = new Place(what.text, what.row, other);
+    throw fault(Code.UNKNOWN_KEY, place, `: unknown key ${shown(other)}; ${unknown(other, level, keys)}`);
   }
   const missing = wanted.find((it) => given[it] === undefined);
-  if (missing !== undefined) throw new TypeError(`${what} has to have ${shown(missing)}`);
+  if (missing === undefined) return;
+  throw fault(Code.MISSING_KEY, new Place(what.text, what.row, missing), `: the key "${missing}" is missing`);
 }
 
 /**
  * The items of an array, so many.
- * @param {string} what @param {any} given @param {string} of @param {number} [low] @param {number} [high] @param {number} [code]
+ * @param {string | Place} what @param {any} given @param {string} of @param {number} [low] @param {number | bigint} [high] @param {string} [code]
  * @returns {any[]}
  */
 function items(what, given, of, low = 0, high = MOST, code = Code.OUT_OF_RANGE) {
   if (typeof given !== "object" || !Number.isInteger(given?.length)) throw wrong(what, `an array of ${of}`, given);
   const { length } = given;
   if (length >= low && length <= high) return Array.from(given);
-  throw new AgcError(code, `${what} has to have ${low}${low === high ? "" : ` to ${high}`} ${of}, and has ${length}`);
+  const many = low === Number(high) ? `${low}` : low === 0 ? `at most ${high}` : `${low} to ${high}`;
+  throw fault(code, what, ` must have ${many} ${of}, and has ${length}`);
 }
 
 /** @type {Record<string, string[]>} */
@@ -300,14 +334,24 @@ const KINDS = {
   action: ACTION_KINDS, job: JOB_KINDS, listing: LISTING_KINDS, request: REQUEST_KINDS, step: STEP_KINDS, leaving: LEAVING_KINDS,
 };
 const { PLAN_RANGE, TIME_RANGE } = Code;
-/** What a value that is out of range lacks, by its key or its table. @type {Record<string, number>} */
-const CODES = {
-  sets: Code.NO_SUCH_SETS, power: Code.NOT_WORDS, key: PLAN_RANGE, radar: PLAN_RANGE, namedTask: PLAN_RANGE, namedPhase: PLAN_RANGE,
-};
+
+// What a plan and a timetable have of a document, which each may stand for, and what a bench has and no scenario.
+const PLANS = ["task", "phase"];
+const TIMES = Object.keys(KEYS.scenario).filter((it) => !(it in KEYS.bench) && it !== "title");
+const OF_BENCH = Object.keys(KEYS.bench).filter((it) => !(it in KEYS.scenario));
+const DOCUMENT = [...OF_BENCH, ...Object.keys(KEYS.scenario)];
+const LAST_TIME = Number(KEYS.event.at.high);
+
+/** What a number of this key lacks that is out of its range. @param {string} level @param {string} name */
+function codeOf(level, name) {
+  if (name === "sets") return Code.NO_SUCH_SETS;
+  if (name === "power") return Code.NOT_WORDS;
+  return ["steal", "job", "cost", "event"].includes(level) || TIMES.includes(name) ? TIME_RANGE : PLAN_RANGE;
+}
 
 /**
  * What a text of this form says: the number of a word or an address, or the numbers of a line.
- * @param {string} what @param {string} form @param {any} given @param {number} code
+ * @param {string | Place} what @param {string} form @param {unknown} given @param {string} code
  * @returns {any}
  */
 function textOf(what, form, given, code) {
@@ -317,66 +361,78 @@ function textOf(what, form, given, code) {
     return numbersAt(at.request, 4);
   }
   if (typeof given !== "string") throw wrong(what, "a string", given);
-  return given;
+  if (form === "device" && !DEVICES.includes(given)) throw fault(code, what, `: ${shown(given)}: a line is timer, key or radar`);
+  // eslint-disable-next-line no-control-regex
+  if (form !== "name" || !/[\0-\x1f\x7f]/.test(given)) return given;
+  throw fault(code, what, `: ${shown(given)}: a name is one line, without control characters`);
 }
 
 /**
  * What the value of a key in a table of this level says; undefined where it isn't given.
- * @param {string} table @param {string} level @param {string} name @param {any} given
+ * @param {Place} table @param {string} level @param {string} name @param {any} given
  * @returns {any}
  */
 function valueOf(table, level, name, given) {
-  const { kind, form, low } = KEYS[level][name];
-  const high = Number(KEYS[level][name].high);
-  const [what, code] = [`${table}: ${name}`, CODES[name] ?? CODES[level] ?? TIME_RANGE];
+  const { kind, form, low, high: most } = KEYS[level][name];
+  const high = most > Number.MAX_SAFE_INTEGER ? most : Number(most);
+  const what = new Place(`${table}: ${name}`, table.row, table.key ?? name);
+  const code = codeOf(level, name);
   if (given === undefined) return undefined;
   if (name === "seconds") return centiseconds(what, given);
-  if (name === "cost" && given instanceof Object) return tableOf(what, "cost", given);
-  if (kind === "tables" || (name === "steal" && typeof given !== "number")) {
-    return items(what, given, kind === "tables" ? "objects" : "objects or an integer")
-      .map((it, k) => tableOf(`${name} ${k + 1}`, form || name, it));
-  }
+  if (name === "cost" && isPlain(given)) return tableOf(what, "cost", given);
+  if (kind === "tables" || (name === "steal" && typeof given !== "number")) return tablesOf(what, name, kind === "tables", form || name, high, given);
   if (kind === "integer") return integer(what, given, low, high, code);
   if (kind === "text") return textOf(what, form, given, code);
+  if (kind === "flag" && typeof given !== "boolean") throw wrong(what, "true or false", given);
+  if (kind === "flag") return given;
   const isOne = kind === "oneOrMore" && typeof given === "string";
   const all = isOne ? [given] : items(what, given, form === "word" ? "words" : "lines", low, high, code);
   const formAt = (/** @type {number} */ k) => (name !== "then" ? form : k === all.length - 1 ? "leaving" : "step");
-  return all.map((it, k) => textOf(`${what} ${k + 1}`, formAt(k), it, code));
+  return all.map((it, k) => textOf(new Place(`${what} ${k + 1}`, what.row, what.key), formAt(k), it, code));
 }
 
-/** What a table of this level says, key by key. @param {string} what @param {string} level @param {any} given @returns {any} */
+/** What the tables of an array say. @param {Place} what @param {string} name @param {boolean} isOnly @param {string} form @param {number | bigint} high @param {any} given */
+function tablesOf(what, name, isOnly, form, high, given) {
+  if (!Array.isArray(given)) {
+    throw fault(Code.WRONG_TYPE, what, ` is ${isOnly ? "" : "an integer or "}an array of tables: write [[${name}]]`);
+  }
+  const level = form === "worker" ? "exploredWorker" : form;
+  return items(what, given, "tables", 0, high).map((it, k) => tableOf(new Place(`${name} ${k + 1}`, `${name} ${k + 1}`), level, it));
+}
+
+/** What a table of this level says, key by key. @param {Place} what @param {string} level @param {any} given @returns {any} */
 function tableOf(what, level, given) {
-  const keys = Object.entries(KEYS[level]);
-  known(what, given, keys.map(([name]) => name), keys.flatMap(([name, it]) => (it.required ? [name] : [])));
-  return Object.fromEntries(keys.map(([name]) => [name, valueOf(what, level, name, given[name])]));
+  const keys = Object.keys(KEYS[level]);
+  // (a device without pulses never stops)
+  known(what, given, keys, keys.filter((it) => KEYS[level][it].required && it !== "pulses"), level);
+  return Object.fromEntries(keys.map((name) => [name, valueOf(what, level, name, given[name])]));
 }
-
-// What a plan and a timetable have, and what documents have at all, of which each may stand for either.
-const PLANS = ["task", "phase"];
-const TIMES = Object.keys(KEYS.scenario).filter((it) => !(it in KEYS.bench) && it !== "title");
-const DOCUMENT = [...new Set([...Object.keys(KEYS.bench), ...Object.keys(KEYS.scenario)])];
-const LAST_TIME = Number(KEYS.event.at.high);
 
 /**
- * These keys of a document: what they say, and as they are given, of which a later change changes nothing.
+ * A document, all of whose keys are looked at: what it says, and these keys as they are given, of which a later change
+ * changes nothing.
  * @param {string} what @param {any} given @param {string[]} keys
  */
-function partsOf(what, given, keys) {
-  known(what, given, DOCUMENT);
-  const says = Object.fromEntries(keys.map((it) => [it, valueOf(what, "scenario", it, given[it])]));
-  const kept = structuredClone(Object.fromEntries(keys.flatMap((it) => (given[it] === undefined ? [] : [[it, given[it]]]))));
-  return { says, kept };
+function documentOf(what, given, keys) {
+  const has = (/** @type {string} */ it) => isPlain(given) && given[it] !== undefined;
+  const level = keys === PLANS && !has("seconds") && OF_BENCH.some(has) ? "bench" : "scenario";
+  // (with other keys it is a whole scenario)
+  const isWhole = keys === TIMES && DOCUMENT.some((it) => has(it) && !keys.includes(it));
+  const names = Object.keys(KEYS[level]);
+  known(new Place(what), given, names, isWhole ? ["seconds"] : [], level);
+  const says = Object.fromEntries(names.map((it) => [it, valueOf(new Place(what), level, it, given[it])]));
+  return { says, kept: structuredClone(Object.fromEntries(keys.filter(has).map((it) => [it, given[it]]))) };
 }
 
-/** How many centiseconds so many seconds are. @param {string} what @param {any} seconds */
+/** How many centiseconds so many seconds are. @param {Place} what @param {unknown} seconds */
 function centiseconds(what, seconds) {
   if (typeof seconds !== "number") throw wrong(what, "a number", seconds);
   if (!(seconds >= 0 && seconds <= LAST_TIME / 100)) {
-    throw new AgcError(TIME_RANGE, `${what} is ${seconds}, and may be 0 to ${LAST_TIME / 100}`);
+    throw fault(TIME_RANGE, what, ` is ${seconds}, and may be 0 to ${LAST_TIME / 100}`);
   }
   const found = Math.round(100 * seconds);
   if (Math.abs(100 * seconds - found) < 1e-6) return found;
-  throw new AgcError(TIME_RANGE, `${what} has to be whole centiseconds, and is ${seconds}`);
+  throw fault(TIME_RANGE, what, ` must be whole centiseconds, and is ${seconds}`);
 }
 
 /**
@@ -397,20 +453,35 @@ function lend(owner, first, lists) {
   return place;
 }
 
+const octal = (/** @type {number} */ it) => it.toString(8).padStart(5, "0");
+
+/** What is said of a row that may not stand beside another. @type {Record<string, (row: number[]) => string>} */
+const SUBJECTS = {
+  TASK_TWICE: ([where, bank]) => `${octal(where)}/${octal(bank)} already has`,
+  PHASE_TWICE: ([group, phase]) => `phase ${phase} of group ${group} already has`,
+  COST_TWICE: ([where]) => `${octal(where)} already has`,
+  STEAL_TWICE: () => "it overlaps",
+};
+
 /**
- * Throws what a call finds lacking in a struct of lists, and which row it is: the first with which so many rows of its list,
- * without those of the other lists that have a name, lack it.
- * @param {(lent: bigint) => number} call @param {number} lent @param {Record<string, number>} counts where each list's is
+ * Throws what a call finds lacking in lists of rows, and which row it is: the first with which its list, without the others,
+ * lacks it; and the row that it may not stand beside.
+ * @param {(lent: bigint) => number} call @param {number} first @param {Record<string, number[][]>} lists @param {number[][]} [others]
  */
-function look(call, lent, counts) {
-  const code = call(BigInt(lent));
-  const lists = Object.entries(counts).map(([name, at]) => ({ name, at: (lent + at) / 4, all: numbers[(lent + at) / 4] }));
-  for (const { name, at, all } of code === Code.OK ? [] : lists) {
-    for (const it of lists) numbers[it.at] = 0;
-    while (numbers[at]++ < all) {
-      if (call(BigInt(lent)) === code) throw new AgcError(code, `${name} ${numbers[at]}: ${codeText(code)}`);
-    }
+function look(call, first, lists, others = []) {
+  const lacks = (/** @type {number[][][]} */ some) => call(BigInt(lend({}, first, [...some, others])));
+  const code = lacks(Object.values(lists));
+  if (code === 0) return;
+  const name = CODE_NAMES[code];
+  for (const [list, rows] of Object.entries(lists)) {
+    const alone = (/** @type {number[][]} */ some) => lacks(Object.values(lists).map((it) => (it === rows ? some : []))) === code;
+    const k = rows.findIndex((_, it) => alone(rows.slice(0, it + 1)));
+    if (k === -1) continue;
+    const twin = rows.slice(0, k).findIndex((it) => alone([it, rows[k]]));
+    const told = twin === -1 ? codeText(name) : `${SUBJECTS[name](rows[k])} row ${twin + 1}`;
+    throw fault(name, new Place(`${list} ${k + 1}`, `${list} ${k + 1}`), `: ${told}`);
   }
+  throw new AgcError(name);
 }
 
 /**
@@ -426,7 +497,7 @@ function put(line) {
 
 /** Throws the code of a call that was not served. @param {number} code */
 function served(code) {
-  if (code !== Code.OK) throw new AgcError(code);
+  if (code !== 0) throw new AgcError(CODE_NAMES[code]);
 }
 
 /** The text that a call has written, whose answer is there. @param {number} place */
@@ -461,13 +532,13 @@ function numberOf(letter, given) {
 
 /**
  * Reads a line of one of these kinds into the place for a request.
- * @param {any} line @param {string[]} kinds @param {string} [what]
+ * @param {unknown} line @param {string[]} kinds @param {string | Place} [what]
  */
 function read(line, kinds, what = "") {
   if (typeof line !== "string") throw wrong(what || "request", "a string", line);
   const call = kinds === ACTION_KINDS ? calls.agc_read_action : calls.agc_read_request;
-  if (call(to.text, put(line), to.request) !== Code.OK || !kinds.includes(NAMES[numbers[at.request / 4]])) {
-    throw new AgcError(Code.NOT_SPELLED, `${what && `${what}: `}${shown(line)}: ${lineFault(line, kinds)}`);
+  if (call(to.text, put(line), to.request) !== 0 || !kinds.includes(NAMES[numbers[at.request / 4]])) {
+    throw fault(Code.NOT_SPELLED, what, `${what && ": "}${shown(line)}: ${lineFault(line, kinds)}`);
   }
 }
 
@@ -475,7 +546,8 @@ function read(line, kinds, what = "") {
 class LentPlan {
   /** @param {Plan} plan */
   constructor(plan) {
-    const { says, kept } = partsOf("a plan", plan, PLANS);
+    const { says, kept } = documentOf("a plan", plan, PLANS);
+    this.says = says;
     const rows = (says.task ?? []).map((/** @type {any} */ it) => {
       const row = [it.at, it.bank, ...it.action.flat()];
       return [...row, ...new Array(LAYOUT.AgcRow.size / 4 - row.length).fill(0)];
@@ -484,11 +556,18 @@ class LentPlan {
     const entries = (says.phase ?? []).map((/** @type {any} */ { group, phase, job = [0, 0, 0, 0], task = [0, 0, 0, 0] }) =>
       [group, phase, ...job, ...task.slice(1)]);
     this.given = kept;
+    look(calls.agc_plan_check, PLAN.rows, { task: rows, phase: entries });
     const place = lend(this, PLAN.rows, [rows, entries]);
-    look(calls.agc_plan_check, place, { task: PLAN.row_count, phase: PLAN.entry_count });
     this.lent = BigInt(place);
     /** Where the entries are, and how many. */
     this.entries = [BigInt(numbers[(place + PLAN.entries) / 4]), BigInt(entries.length)];
+  }
+
+  /** What a document has for this key of a machine, or what is given for it: both, where they are the same. @param {string} name @param {unknown} given */
+  value(name, given) {
+    const [its, named] = [this.says[name], valueOf(new Place("a machine"), "bench", name, given)];
+    if (its === undefined || named === undefined || `${its}` === `${named}`) return named ?? its;
+    throw fault(codeOf("bench", name), new Place("a machine", null, name), `: its ${name} and its plan's differ`);
   }
 }
 
@@ -532,7 +611,7 @@ export class Step {
 
 /** Writes a step to the place of an answer. @param {Step} step */
 function putStep({ kind, number, fired, action }) {
-  numbers.set([Code.OK, kind, number, fired.length, action], at.answer / 4);
+  numbers.set([0, kind, number, fired.length, action], at.answer / 4);
 }
 
 /** The reply that a step has written. */
@@ -548,9 +627,9 @@ function stepAt() {
 /**
  * A machine: its words, and the plan by which it goes on after an alarm.
  *
- * `plan` has `task` and `phase` as a bench has them, and both may be missing. `power` are the
- * twelve phase words that were found as power came back. `words` are those of an earlier machine,
- * with as many core sets as these have.
+ * `plan` has `task` and `phase` as a bench has them, and both may be missing, or is a whole bench or
+ * scenario, whose `sets` and `power` hold, too. `power` are the twelve phase words that were found as
+ * power came back. `words` are those of an earlier machine, with as many core sets as these have.
  */
 export class Machine {
   #sets = 7;
@@ -565,13 +644,15 @@ export class Machine {
 
   /** @param {{ sets?: number, plan?: Plan, power?: readonly (number | string)[], words?: ArrayLike<number> }} given */
   constructor(given = {}) {
-    known("a machine", given, ["sets", "plan", "power", "words"]);
+    known(new Place("a machine"), given, ["sets", "plan", "power", "words"]);
     isStarted();
-    const { sets, plan = {}, power, words } = given;
-    if (words !== undefined && power !== undefined) throw new TypeError("a machine begins with words or with power, and not with both");
-    const found = words === undefined ? [] : wordsOf("words", words, sets);
-    this.#sets = valueOf("a machine", "bench", "sets", sets) ?? setsOf(found);
+    const { plan = {}, words } = given;
+    if (words !== undefined && given.power !== undefined) throw new TypeError("a machine begins with words or with power, and not with both");
+    // (a copy's is looked at already)
     this.#plan = plan instanceof LentPlan ? plan : new LentPlan(plan);
+    const [sets, power] = [this.#plan.value("sets", given.sets), this.#plan.value("power", given.power)];
+    const found = words === undefined ? [] : wordsOf("words", words, sets);
+    this.#sets = sets ?? setsOf(found);
     this.#place = roomFor(this, 4 * WORDS);
     [this.#words, this.#moment] = [BigInt(this.#place), BigInt(this.#place + 2 * WORDS)];
     if (words !== undefined) {
@@ -579,7 +660,7 @@ export class Machine {
     } else if (power === undefined) {
       served(calls.agc_clear(this.#words, this.#sets));
     } else {
-      halves.set(valueOf("a machine", "bench", "power", power), at.phases / 2);
+      halves.set(power, at.phases / 2);
       calls.agc_power_up(to.answer, this.#words, this.#sets, ...this.#plan.entries, to.phases);
       served(numbers[at.answer / 4]);
     }
@@ -612,8 +693,7 @@ export class Machine {
     } else if (given.length === 0) {
       read(request, REQUEST_KINDS);
     } else {
-      const has = form === undefined || form.kind === 0 ? "" : `; it has the form "${[request, ...form.letters].join(" ")}"`;
-      throw new AgcError(Code.NOT_SPELLED, `${shown(request)}: no request of this name has ${given.length} numbers${has}`);
+      throw new AgcError(Code.NOT_SPELLED, countFault(request, given.length));
     }
   }
 
@@ -636,9 +716,9 @@ export class Machine {
     this.#spell(name, its);
     this.#step(calls.agc_step_trusted);
     const code = numbers[at.answer / 4];
-    if (code !== Code.OK) {
+    if (code !== 0) {
       its.forEach((it, k) => numberOf(FORMS.get(name)?.letters[k] ?? "", it));
-      throw new AgcError(code);
+      served(code);
     }
     this.#count();
     return stepAt();
@@ -648,9 +728,11 @@ export class Machine {
   #count() {
     const kind = numbers[at.answer / 4 + 1];
     const alarmed = kind === Kind.ALARMED || kind === Kind.TICK_ALARMED;
-    this.#totals.served++;
-    if (alarmed) this.#totals.alarms[numbers[at.answer / 4 + 2] - 0o1201]++;
-    if (alarmed || kind === Kind.RESTARTED) this.#totals.restarts++;
+    const { served: count, alarms, restarts } = this.#totals;
+    const alarm = numbers[at.answer / 4 + 2] - 0o1201;
+    this.#totals.served = Math.min(count + 1, Number.MAX_SAFE_INTEGER);
+    if (alarmed) alarms[alarm] = Math.min(alarms[alarm] + 1, Number.MAX_SAFE_INTEGER);
+    if (alarmed || kind === Kind.RESTARTED) this.#totals.restarts = Math.min(restarts + 1, Number.MAX_SAFE_INTEGER);
   }
 
   /**
@@ -729,7 +811,7 @@ export class Machine {
   /** A machine of what `state` told. Its words are looked at as those from elsewhere are. @param {MachineState} state */
   static ofState(state) {
     const keys = ["sets", "plan", "words", "moment", "totals"];
-    known("a machine's state", state, keys, keys);
+    known(new Place("a machine's state"), state, keys, keys);
     const made = new Machine({ sets: state.sets, plan: state.plan, words: state.words });
     made.#totals = totalsOf(state.totals);
     const moment = wordsOf("moment", state.moment, made.#sets);
@@ -801,12 +883,13 @@ function askedAt() {
 const BOUNDS = ["served", "allowance", "logged", "limit"];
 const TOTALS = ["served", "alarms", "restarts"];
 
-/** The totals of a state; a version before wrote a list of them. @param {any} given @returns {Totals} */
+/** The totals of a state; a version before wrote a list of them. Counts that no number holds are the most that one does. @param {any} given @returns {Totals} */
 function totalsOf(given) {
   const found = Array.isArray(given) ? Object.fromEntries(given.map((it, k) => [TOTALS[k], it])) : given;
-  known("totals", found, TOTALS, TOTALS);
-  const count = (/** @type {string} */ what, /** @type {any} */ it) => integer(`totals: ${what}`, it, 0, Number.MAX_SAFE_INTEGER);
-  const alarms = items("totals: alarms", found.alarms, "counts", 3, 3).map((it, k) => count(`alarms ${k + 1}`, it));
+  known(new Place("totals", "totals"), found, TOTALS, TOTALS);
+  const count = (/** @type {string} */ what, /** @type {any} */ it) =>
+    integer(keyAt("totals", what), it > Number.MAX_SAFE_INTEGER ? Number.MAX_SAFE_INTEGER : it, 0, Number.MAX_SAFE_INTEGER);
+  const alarms = items(keyAt("totals", "alarms"), found.alarms, "counts", 3, 3).map((it, k) => count(`alarms ${k + 1}`, it));
   return { served: count("served", found.served), alarms, restarts: count("restarts", found.restarts) };
 }
 
@@ -816,11 +899,12 @@ function totalsOf(given) {
  * no request is thrown.
  * @param {string | Asked} request
  * @param {Bounds} bounds
- * @returns {number}
+ * @returns {string}
  */
 export function refusalOf(request, bounds) {
   isStarted();
-  known("bounds", bounds, BOUNDS, BOUNDS);
+  const lacked = BOUNDS.find((it) => !isPlain(bounds) || Reflect.get(bounds, it) === undefined);
+  if (lacked !== undefined) throw new TypeError(`bounds must be a plain object with ${BOUNDS.join(", ")}, and ${lacked} is missing`);
   read(request instanceof Asked ? request.text : request, REQUEST_KINDS);
   const counts = new DataView(calls.memory.buffer, at.bounds);
   BOUNDS.forEach((name, k) => {
@@ -829,7 +913,7 @@ export function refusalOf(request, bounds) {
     if (k < 2) counts.setBigUint64(8 * k, BigInt(it), true);
     else counts.setUint32(8 + 4 * k, Number(it), true);
   });
-  return calls.agc_refusal(to.request, to.bounds);
+  return CODE_NAMES[calls.agc_refusal(to.request, to.bounds)];
 }
 
 /**
@@ -845,9 +929,9 @@ export function pulseOf(line, plan = {}) {
   if (!DEVICES.includes(line)) {
     throw new AgcError(Code.OUT_OF_RANGE, `line is ${shown(line)}, and may be ${DEVICES.slice(0, -1).join(", ")} or ${DEVICES.at(-1)}`);
   }
-  known("a plan of pulses", plan, DOCUMENT);
+  known(new Place("a plan of pulses"), plan, DOCUMENT);
   const [key, radar] = [plan.key, plan.radar].map((it, k) =>
-    (Array.isArray(it) && it.length === 0 ? [] : valueOf("a pulse", "bench", k === 0 ? "key" : "radar", it) ?? []));
+    (Array.isArray(it) && it.length === 0 ? [] : valueOf(new Place("a pulse"), "bench", k === 0 ? "key" : "radar", it) ?? []));
   numbers.set([...key, ...radar].flat(), at.actions / 4);
   const second = to.actions + BigInt(REQUEST.size * key.length);
   calls.agc_pulse(to.answer, DEVICES.indexOf(line), to.actions, BigInt(key.length), second, BigInt(radar.length), to.pulse);
@@ -864,10 +948,10 @@ function untilOf(until, from = 0) {
 function stolenOf(steal = 0) {
   if (typeof steal === "number") return steal === 0 ? [] : [[0, MOST, steal, 0, LAST_TIME]];
   return steal.map((/** @type {any} */ { from, to, percent, every, until }, /** @type {number} */ k) => {
-    if (to <= from) throw new AgcError(TIME_RANGE, `steal ${k + 1}: to is ${to}, and has to be above from, ${from}`);
+    if (to <= from) throw fault(TIME_RANGE, keyAt(`steal ${k + 1}`, "to"), ` is ${to}, and must be above from, ${from}`);
     if (every >= to - from || every === undefined) return [from, to, percent, every ?? 0, untilOf(until)];
     const least = `as long as the row lasts, ${to - from}, or longer`;
-    throw new AgcError(TIME_RANGE, `steal ${k + 1}: every is ${every}, and has to be ${least}`);
+    throw fault(TIME_RANGE, keyAt(`steal ${k + 1}`, "every"), ` is ${every}, and must be ${least}`);
   });
 }
 
@@ -877,7 +961,7 @@ function stolenOf(steal = 0) {
  */
 function costOf({ at, cost, then = [[0, 0]] }, k, requests) {
   const { from, to } = typeof cost === "number" ? { from: cost, to: cost } : cost;
-  if (from > to) throw new AgcError(TIME_RANGE, `job ${k + 1}: cost: to is ${to}, and may not be less than from, ${from}`);
+  if (from > to) throw fault(TIME_RANGE, keyAt(`job ${k + 1}`, "cost"), `: to is ${to}, and may not be less than from, ${from}`);
   const first = requests.length;
   requests.push(...then.slice(0, -1));
   // (of an end the address is 0)
@@ -893,7 +977,10 @@ function eventsOf(events, requests) {
   const firsts = new Map();
   return events.map(({ name, at, after, every = 0, until, do: lines }, k) => {
     const base = after === undefined ? { alarm: 0, from: 0 } : firsts.get(after) ?? ALARMS.get(after);
-    if (base === undefined) throw new AgcError(TIME_RANGE, `event ${k + 1}: no event above it is called ${shown(after)}`);
+    if (base === undefined) {
+      const told = "no event above it has that name, and it is no alarm: 1201, 1202 or 1203";
+      throw fault(TIME_RANGE, keyAt(`event ${k + 1}`, "after"), `: ${shown(after)}: ${told}`);
+    }
     const { alarm, from } = base;
     const first = Math.max(alarm && 1, Math.min(from + at, LAST_TIME + 1));
     if (name !== undefined && !firsts.has(name)) firsts.set(name, { alarm, from: first });
@@ -909,7 +996,7 @@ const ALARMS = new Map(["1201", "1202", "1203"].map((code) => [code, { alarm: pa
 class LentTimes {
   /** @param {Timetable} timetable */
   constructor(timetable) {
-    const { says: { seconds = LAST_TIME, seed, steal, job = [], event = [] }, kept } = partsOf("a timetable", timetable, TIMES);
+    const { says: { seconds = LAST_TIME, seed, steal, job = [], event = [] }, kept } = documentOf("a timetable", timetable, TIMES);
     this.lasts = seconds;
     /** @type {Timetable} */
     this.given = kept;
@@ -920,11 +1007,11 @@ class LentTimes {
     this.events = eventsOf(event, requests);
     const byLot = costs.findIndex((/** @type {number[]} */ it) => it[5] !== 0);
     if (seed === undefined && byLot !== -1) {
-      throw new AgcError(TIME_RANGE, `job ${byLot + 1}: its cost is by lot, and there is no seed`);
+      throw fault(TIME_RANGE, keyAt(`job ${byLot + 1}`, "cost"), " is by lot, and there is no seed");
     }
     this.seed = seed ?? 0;
+    look(calls.agc_clock_check, TABLE.stolen, { steal: stolen, job: costs, event: this.events }, requests);
     this.place = lend(this, TABLE.stolen, [stolen, costs, this.events, requests]);
-    look(calls.agc_clock_check, this.place, { steal: TABLE.stolen_count, job: TABLE.cost_count, event: TABLE.event_count });
   }
 }
 
@@ -941,6 +1028,8 @@ export class Clock {
   #alarms = {};
   // (the clock, behind it the events of its timetable, which alarms move, and the timetable with these)
   #place = 0;
+  /** Whether it has given a request, and was not told what came of it. */
+  #owes = false;
   #clock = 0n;
   #lent = 0n;
 
@@ -969,7 +1058,7 @@ export class Clock {
     [this.#place, this.#clock, this.#lent, this.#alarms] = [place, BigInt(place), BigInt(place + size), {}];
     for (const [code, time] of Object.entries(alarms)) {
       numbers[(at.clock + CLOCK.time) / 4] = time;
-      numbers.set([Code.OK, Kind.ALARMED, parseInt(code, 8), 0, 0], at.answer / 4);
+      numbers.set([0, Kind.ALARMED, parseInt(code, 8), 0, 0], at.answer / 4);
       this.#hear(to.clock, time);
     }
   }
@@ -1008,14 +1097,14 @@ export class Clock {
 
   /** A clock of what `state` told. @param {ClockState} state */
   static ofState(state) {
-    known("a clock's state", state, ["timetable", "at", "alarms"], ["timetable", "at"]);
+    known(new Place("a clock's state"), state, ["timetable", "at", "alarms"], ["timetable", "at"]);
     const made = new Clock(state.timetable);
     const { alarms = {} } = state;
-    known("alarms", alarms, [...ALARMS.keys()]);
-    Object.entries(alarms).forEach(([code, it]) => integer(`alarms: ${code}`, it, 0, LAST_TIME, TIME_RANGE));
+    known(new Place("alarms", "alarms"), alarms, [...ALARMS.keys()]);
+    Object.entries(alarms).forEach(([code, it]) => integer(keyAt("alarms", code), it, 0, LAST_TIME, TIME_RANGE));
     made.#enter(/** @type {Record<string, number>} */ (alarms));
-    const given = items("at", state.at, "numbers", 14, 14);
-    given.forEach((it, k) => integer(`at: number ${k + 1}`, it, 0, k === 3 ? 1 : MOST));
+    const given = items(new Place("at", null, "at"), state.at, "numbers", 14, 14);
+    given.forEach((it, k) => integer(new Place(`at: number ${k + 1}`, null, "at"), it, 0, k === 3 ? 1 : MOST));
     [CLOCK.time, CLOCK.event, CLOCK.asked, CLOCK.looks, CLOCK.left].forEach((field, k) => { numbers[(made.#place + field) / 4] = given[k]; });
     numbers.set(given.slice(5), (made.#place + CLOCK.given) / 4);
     return made;
@@ -1026,9 +1115,11 @@ export class Clock {
    * @internal @param {bigint} words @param {number} sets @param {number} end
    */
   give(words, sets, end) {
+    if (this.#owes) throw new AgcError(Code.NOT_NOW, "the clock was asked again, and not told by `served` what came of its request");
     numbers[(Number(this.#lent) + TABLE.lasts) / 4] = Math.min(this.#times.lasts, end);
     calls.agc_clock_next_trusted(to.answer, words, sets, this.#lent, this.#clock, to.request);
-    return numbers[at.answer / 4 + 1] !== 0;
+    this.#owes = numbers[at.answer / 4 + 1] !== 0;
+    return this.#owes;
   }
 
   /**
@@ -1036,6 +1127,7 @@ export class Clock {
    * @internal @param {bigint} words @param {number} sets
    */
   take(words, sets) {
+    this.#owes = false;
     calls.agc_clock_served_trusted(words, sets, to.answer, this.#clock);
     const kind = numbers[at.answer / 4 + 1];
     if (kind === Kind.ALARMED || kind === Kind.TICK_ALARMED) this.#hear(this.#clock, this.time);
@@ -1085,9 +1177,7 @@ export class Clock {
 
   /** Another timetable from here on, of which what isn't named stays as it was. @param {Timetable} timetable */
   change(timetable) {
-    known("a timetable", timetable, DOCUMENT);
-    const named = TIMES.filter((it) => Reflect.get(timetable, it) !== undefined);
-    this.#times = new LentTimes({ ...this.#times.given, ...Object.fromEntries(named.map((it) => [it, Reflect.get(timetable, it)])) });
+    this.#times = new LentTimes({ ...this.#times.given, ...documentOf("a timetable", timetable, TIMES).kept });
     this.#enter(this.#alarms);
     // (lots are drawn anew where a seed is named)
     if (timetable.seed !== undefined) numbers[(this.#place + CLOCK.lot) / 4] = this.#times.seed;
@@ -1096,7 +1186,7 @@ export class Clock {
   /** A clock of its own with the same time, counts and timetable. */
   copy() {
     const made = new Clock(/** @type {any} */ (this.#times));
-    made.#alarms = this.#alarms;
+    [made.#alarms, made.#owes] = [this.#alarms, this.#owes];
     bytes.copyWithin(made.#place, this.#place, this.#place + CLOCK.size + EVENT.size * this.#times.events.length);
     return made;
   }
@@ -1121,7 +1211,7 @@ function wordsOf(what, words, sets) {
   const sizes = sets === undefined ? [NUMBERS.LAST_SET, WORDS] : [sizeOf(sets)];
   const found = items(what, words, "words");
   if (!sizes.includes(found.length)) {
-    throw new AgcError(Code.NOT_WORDS, `${what}: there have to be ${sizes.join(" or ")}, and these are ${found.length}`);
+    throw new AgcError(Code.NOT_WORDS, `${what}: there must be ${sizes.join(" or ")}, and there are ${found.length}`);
   }
   return found.map((it, k) => {
     if (Number.isInteger(it)) return it;
@@ -1170,16 +1260,20 @@ function untidy(words) {
 function findingIn(words, sets) {
   putWords(words, at.other);
   calls.agc_explain(to.answer, to.other, sets);
-  const told = numbersAt(at.answer, 5);
-  const odd = told[0] === Code.OK ? untidy(words) : -1;
-  const [code, rule, place, , right] = odd === -1 ? told : [Code.UNTIDY, 0, odd, 0, 0];
+  let [number, rule, place, , right] = numbersAt(at.answer, 5);
+  const odd = number === 0 ? untidy(words) : -1;
+  if (odd !== -1) [number, place, right] = [CODE_NUMBERS.UNTIDY, odd, 0];
+  if (number === 0) {
+    calls.agc_due(to.answer, to.other, sets);
+    if (numbers[at.answer / 4] === 0 && bytes[at.answer + LAYOUT.AgcTruth.truth] !== 0) [number, place, right] = [CODE_NUMBERS.NOT_NOW, NUMBERS.TIME3, NUMBERS.ANY];
+  }
+  const code = CODE_NAMES[number];
   if (code === Code.OK || code === Code.NO_SUCH_SETS) return null;
-  const wanted = right === NUMBERS.ANY ? null : right;
-  const octal = (/** @type {number} */ it) => (it < 0 ? String(it) : it.toString(8).padStart(5, "0"));
+  const [found, wanted] = [words[place], right === NUMBERS.ANY ? null : right];
   if (rule !== 0) calls.agc_write_rule(to.answer, rule, to.text, BigInt(SIZE.text));
-  const why = rule === 0 ? "no request leaves it so" : textAt(at.answer);
+  const why = rule !== 0 ? textAt(at.answer) : code === Code.NOT_NOW ? "a task is due" : "no request leaves it so";
   const other = wanted === null ? "" : `, and would have to be ${octal(wanted)}`;
-  return { code, rule, place, found: words[place], wanted, text: `${PLACES[place]} (word ${place}) is ${octal(words[place])}${other}: ${why}` };
+  return { code, rule, place, found, wanted, text: `${PLACES[place]} (word ${place}) is ${found < 0 ? found : octal(found)}${other}: ${why}` };
 }
 
 /**
@@ -1197,9 +1291,9 @@ export function findingOf(words) {
  * @param {string} what @param {number} code @param {number[]} words @param {number} sets
  */
 function lawful(what, code, words, sets) {
-  if (code === Code.OK) return;
+  if (code === 0) return;
   const finding = findingIn(words, sets);
-  throw new AgcError(code, finding === null ? codeText(code) : `${what}: ${finding.text}`);
+  throw new AgcError(CODE_NAMES[code], finding === null ? "" : `${what}: ${finding.text}`);
 }
 
 /**

@@ -75,7 +75,7 @@ PLACES = (
 
 
 class Code(enum.IntEnum):
-    """What a call lacked: the first that applies."""
+    """What a call or a document lacked: the first that applies."""
 
     OK = 0
     NO_SUCH_SETS = 1
@@ -96,6 +96,9 @@ class Code(enum.IntEnum):
     COST_TWICE = 17
     SPENT = 19
     LOG_FULL = 20
+    UNKNOWN_KEY = 101
+    MISSING_KEY = 102
+    WRONG_TYPE = 103
 
 
 class Kind(enum.IntEnum):
@@ -137,6 +140,9 @@ CODE_TEXTS: Dict[int, str] = {
     Code.COST_TWICE: "one address has two costs",
     Code.SPENT: "as many requests were served as the allowance says",
     Code.LOG_FULL: "the log is full, which only a restart or a fresh start empties",
+    Code.UNKNOWN_KEY: "a key of the document is unknown",
+    Code.MISSING_KEY: "a key of the document is missing",
+    Code.WRONG_TYPE: "a value of the document is of the wrong type",
 }
 
 REPLY_TEXTS: Dict[int, str] = {

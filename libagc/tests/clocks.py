@@ -53,7 +53,7 @@ class Scenario:
                 self.serve(rest)
 
     def run(self, centiseconds):
-        for asked, step in self.machine.run(self.clock, centiseconds):
+        for asked, step in self.machine.iter(self.clock, centiseconds):
             found = [*asked.numbers, *[0] * (3 - len(asked.numbers))]
             print(self.clock.time, 1 if asked.event is None else asked.event + 2, KINDS.index(asked.name), *found, step.text)
 
@@ -111,7 +111,7 @@ def refuses():
 def asks(timetable, centiseconds):
     """What a clock asks besides ticks: when, and the line's name and numbers."""
     machine, clock = Machine(), Clock(timetable)
-    return [(clock.time, it.name, *it.numbers) for it, _ in machine.run(clock, centiseconds) if it.name != "tick"]
+    return [(clock.time, it.name, *it.numbers) for it, _ in machine.iter(clock, centiseconds) if it.name != "tick"]
 
 
 def keeps():
@@ -145,11 +145,9 @@ def keeps():
     lots["event"] = [{"at": 1, "do": "novac 20 04000 00005", "every": 4}]
     assert [it for it in asks(lots, 12) if it[1] == "end"] == [(2, "end"), (7, "end"), (10, "end")]
     machine, clock = Machine(), Clock(lots)
-    for _ in machine.run(clock, 1):
-        pass
+    machine.run(clock, 1)
     assert clock.given[0] == 300 - 131 + 100 and clock.state["at"][-1] == 48271
-    for _ in machine.run(clock, 4):
-        pass
+    machine.run(clock, 4)
     assert clock.given[0] == 300 - 208 + 100 and clock.state["at"][-1] == 182605794
     kept = Clock.of_state(clock.state)
     assert [str(it) for it, _ in machine.copy().run(kept, 9)] == [str(it) for it, _ in machine.run(clock, 9)] and kept.given == clock.given
@@ -163,8 +161,7 @@ def keeps():
     late = {**steal, "event": [{"at": 2000, "do": "novac 20 04000 00005"}]}
     assert asks(late, 2009) == [(2000, "novac", 0o20, 0o4000, 5), (2003, "end")]
     machine, clock = Machine(), Clock(steal)
-    for _ in machine.run(clock, 3):
-        pass
+    machine.run(clock, 3)
     assert clock.given == (180, 0, 0, 0, 0, 0, 0, 0)
     other, copied = clock.copy(), machine.copy()
     assert other.time == 3 and [it.name for it, _ in copied.run(other, 1)] == ["tick", "end"] and other.given[0] == 0
@@ -172,7 +169,7 @@ def keeps():
     # Each request is served when its reply is told, also where a run is broken off: the job is gone, and what it was given.
     events = [{"at": 1, "do": "novac 20 04000 00005"}, {"at": 2, "do": "restart"}]
     machine, clock = Machine(), Clock({"event": events, "job": [{"at": "04000", "cost": 5}]})
-    for asked, step in machine.run(clock, 9):
+    for asked, step in machine.iter(clock, 9):
         if step.begins_era:
             break
     assert (asked.name, asked.event, clock.time, clock.given[0]) == ("restart", 1, 2, 0)

@@ -35,7 +35,7 @@ function thrown(kind, call, told) {
     call();
   } catch (fault) {
     want(fault instanceof kind && (told === undefined || fault.message === told), `${call} throws ${fault}`);
-    return;
+    return fault;
   }
   throw new Error(`nothing is thrown by ${call}`);
 }
@@ -43,14 +43,14 @@ function thrown(kind, call, told) {
 function timeGoesOn() {
   const [machine, clock] = [new Machine(), new Clock()];
   thrown(AgcError, () => machine.run(clock, -1), "centiseconds is -1, and may be 0 to 4294967295");
-  thrown(TypeError, () => machine.run(clock, 2.5), "centiseconds has to be an integer, and this is 2.5");
+  thrown(TypeError, () => machine.run(clock, 2.5), "centiseconds must be an integer, not 2.5");
   want(machine.run(clock, 0) === 0 && clock.time === 0 && machine.run(clock, 3) === 3, "a run");
   want(new Clock({ seconds: 86400 }).lasts === 8640000 && new Clock({ seconds: 0.29 }).lasts === 29, "a day");
   thrown(AgcError, () => new Clock({ seconds: 86401 }), "a timetable: seconds is 86401, and may be 0 to 86400");
-  thrown(AgcError, () => new Clock({ seconds: 0.125 }), "a timetable: seconds has to be whole centiseconds, and is 0.125");
+  thrown(AgcError, () => new Clock({ seconds: 0.125 }), "a timetable: seconds must be whole centiseconds, and is 0.125");
   thrown(AgcError, () => new Clock({ seconds: Number.NaN }), "a timetable: seconds is NaN, and may be 0 to 86400");
   for (const seconds of ["", [], true, null, "5"]) {
-    thrown(TypeError, () => new Clock({ seconds }), `a timetable: seconds has to be a number, and this is ${JSON.stringify(seconds)}`);
+    thrown(AgcError, () => new Clock({ seconds }), `a timetable: seconds must be a number, not ${JSON.stringify(seconds)}`);
   }
 }
 
@@ -92,7 +92,7 @@ function boundsRefuse() {
   thrown(AgcError, () => refusalOf("tock", bounds), '"tock": its first word is unknown; did you mean "tick"?');
   thrown(AgcError, () => refusalOf("tick", { ...bounds, allowance: 2n ** 64n }), "bounds: allowance is 18446744073709551616, and may be 0 to 18446744073709551615");
   thrown(AgcError, () => refusalOf("tick", { ...bounds, logged: -1 }), "bounds: logged is -1, and may be 0 to 4294967295");
-  thrown(TypeError, () => refusalOf("tick", { served: 0 }), 'bounds has to have "allowance"');
+  thrown(TypeError, () => refusalOf("tick", { served: 0 }), "bounds must be a plain object with served, allowance, logged, limit, and allowance is missing");
 }
 
 /** A timer's pulse asks for a tick, the others for what the plan has done; no machine takes note of it. */
@@ -107,56 +107,108 @@ function pulsesAsk() {
   want(same(pulseOf("radar", { radar: "list 16250 37777 77777" }), ["list 16250 37777 77777"]), "a radar");
   const four = new Array(4).fill("findvac 01 00001 00000");
   want(same(pulseOf("key", { key: four }), four), "four actions");
-  thrown(AgcError, () => pulseOf("key", { key: [...four, "nothing"] }), "a pulse: key has to have 1 to 4 lines, and has 5");
+  thrown(AgcError, () => pulseOf("key", { key: [...four, "nothing"] }), "a pulse: key must have 1 to 4 lines, and has 5");
   thrown(AgcError, () => pulseOf("bell"), 'line is "bell", and may be timer, key or radar');
   thrown(AgcError, () => pulseOf("key", { key: "tick" }), 'a pulse: key 1: "tick": an action is nothing, or begins with novac, findvac, rouse or list');
   want(machine.ask("tick").fired.length === 1 && machine.scene().sets[0].at === 0o4000, "the machine goes on");
 }
 
+/** Every fault of a document is an AgcError with a code, a row and a key, and is said as `agc_watch check` says it. */
 function keysAreKnown() {
-  const job = { at: "04000", cost: 1 };
-  thrown(TypeError, () => new Clock({ stael: 15 }), 'a timetable has no key "stael": is it "steal"?');
-  thrown(TypeError, () => new Clock().change({ stael: 15 }));
-  thrown(TypeError, () => new Clock({ job: [job, { ...job, costs: 1 }] }), 'job 2 has no key "costs": is it "cost"?');
-  thrown(TypeError, () => new Clock({ job: [{ at: "04000" }] }), 'job 1 has to have "cost"');
-  thrown(AgcError, () => new Clock({ job: [{ at: "04000", cost: 1, then: " end" }] }), 'job 1: then 1: " end": a job leaves by end or sleep');
-  thrown(TypeError, () => new Clock({ job: [{ ...job, cost: 0.5 }] }), "job 1: cost has to be an integer, and this is 0.5");
-  thrown(TypeError, () => new Clock({ job }), 'a timetable: job has to be an array of objects, and this is {"at":"04000","cost":1}');
-  thrown(TypeError, () => new Clock({ event: [{ do: "tick" }] }), 'event 1 has to have "at"');
-  thrown(TypeError, () => new Clock({ steal: [{ from: 0, to: 9 }] }), 'steal 1 has to have "percent"');
-  thrown(TypeError, () => new Clock([]), "a timetable has to be an object, and this is []");
-  thrown(TypeError, () => new Machine({ set: 7 }), 'a machine has no key "set": is it "sets"?');
-  thrown(TypeError, () => new Machine({ plan: { tasks: [] } }));
-  thrown(TypeError, () => new Machine({ plan: { task: [{ at: 1, bank: 5 }] } }), 'task 1 has to have "action"');
-  thrown(TypeError, () => new Machine({ plan: { phase: [5] } }), "phase 1 has to be an object, and this is 5");
-  // A whole scenario stands for its plan and for its timetable.
-  const scenario = { title: "a landing", sets: 7, seconds: 60, ...PLAN, ...SERVICER };
-  want(new Clock(scenario).lasts === 6000 && new Machine({ plan: scenario }).ask("tick").text === "tick", "a scenario");
+  const [row, job, event] = [{ at: 1, bank: 5 }, { at: "04000", cost: 1 }, { at: 0, do: "tick" }];
+  const { UNKNOWN_KEY, MISSING_KEY, WRONG_TYPE, PLAN_RANGE, TIME_RANGE, OUT_OF_RANGE, NOT_SPELLED, NOT_WORDS } = Code;
+  const clock = (it) => () => new Clock(it);
+  const plan = (it) => () => new Machine({ plan: it });
+  for (const [call, code, at, key, told] of [
+    [clock({ stael: 15 }), UNKNOWN_KEY, null, "stael", 'a timetable: unknown key "stael"; did you mean "steal"?'],
+    [() => new Clock().change({ stael: 15 }), UNKNOWN_KEY, null, "stael", 'a timetable: unknown key "stael"; did you mean "steal"?'],
+    [clock({ job: [job, { ...job, costs: 1 }] }), UNKNOWN_KEY, "job 2", "costs", 'job 2: unknown key "costs"; did you mean "cost"?'],
+    [clock({ job: [{ ...job, seed: 1 }] }), UNKNOWN_KEY, "job 1", "seed", 'job 1: unknown key "seed"; it belongs above all tables'],
+    [clock({ event: [{ ...event, xyz: 1 }] }), UNKNOWN_KEY, "event 1", "xyz", 'event 1: unknown key "xyz"; the keys are at, after, do, every, until, name'],
+    [clock({ seconds: 5, script: ["tick"] }), UNKNOWN_KEY, null, "script", 'a timetable: unknown key "script"; a bench has it, but no scenario'],
+    [plan({ seconds: 5, worker: [] }), UNKNOWN_KEY, null, "worker", 'a plan: unknown key "worker"; a bench has it, but no scenario'],
+    [plan({ script: [], steal: 5 }), UNKNOWN_KEY, null, "steal", 'a plan: unknown key "steal"; a scenario has it, which has "seconds" too'],
+    [plan({ tasks: [] }), UNKNOWN_KEY, null, "tasks", 'a plan: unknown key "tasks"; did you mean "task"?'],
+    [() => new Machine({ set: 7 }), UNKNOWN_KEY, null, "set", 'a machine: unknown key "set"; did you mean "sets"?'],
+    [clock({ task: [], steal: 5 }), MISSING_KEY, null, "seconds", 'a timetable: the key "seconds" is missing'],
+    [clock({ job: [{ at: "04000" }] }), MISSING_KEY, "job 1", "cost", 'job 1: the key "cost" is missing'],
+    [clock({ event: [{ do: "tick" }] }), MISSING_KEY, "event 1", "at", 'event 1: the key "at" is missing'],
+    [clock({ steal: [{ from: 0, to: 9 }] }), MISSING_KEY, "steal 1", "percent", 'steal 1: the key "percent" is missing'],
+    [plan({ task: [row] }), MISSING_KEY, "task 1", "action", 'task 1: the key "action" is missing'],
+    [clock({ job: [{ ...job, then: " end" }] }), NOT_SPELLED, "job 1", "then", 'job 1: then 1: " end": it begins with a space'],
+    [clock({ job: [{ ...job, cost: 0.5 }] }), WRONG_TYPE, "job 1", "cost", "job 1: cost must be an integer, not 0.5"],
+    [clock({ job }), WRONG_TYPE, null, "job", "a timetable: job is an array of tables: write [[job]]"],
+    [clock({ steal: null }), WRONG_TYPE, null, "steal", "a timetable: steal is an integer or an array of tables: write [[steal]]"],
+    [clock({ event: [{ ...event, at: "0" }] }), WRONG_TYPE, "event 1", "at", 'event 1: at must be an integer, not "0"'],
+    [clock({ event: [{ ...event, name: [] }] }), WRONG_TYPE, "event 1", "name", "event 1: name must be a string, not []"],
+    [clock({ job: [{ at: true, cost: 1 }] }), WRONG_TYPE, "job 1", "at", "job 1: at must be an integer or five octal digits, not true"],
+    [clock({ job: [{ at: 1, cost: 5n }] }), WRONG_TYPE, "job 1", "cost", "job 1: cost must be an integer, not 5n"],
+    [clock({ event: [{ at: 1e30, do: "tick" }] }), WRONG_TYPE, "event 1", "at", "event 1: at must be an integer, not 1e+30"],
+    [clock({ event: [{ at: 0, do: () => "tick" }] }), WRONG_TYPE, "event 1", "do", 'event 1: do must be an array of lines, not () => "tick"'],
+    [plan({ phase: [5] }), WRONG_TYPE, "phase 1", null, "phase 1 must be a plain object, not 5"],
+    [plan({ script: 7 }), WRONG_TYPE, null, "script", "a plan: script must be an array of lines, not 7"],
+    [plan({ worker: "x" }), WRONG_TYPE, null, "worker", "a plan: worker is an array of tables: write [[worker]]"],
+    [plan({ worker: [{ script: [], repeat: 1 }] }), WRONG_TYPE, "worker 1", "repeat", "worker 1: repeat must be true or false, not 1"],
+    [plan({ limit: -5 }), PLAN_RANGE, null, "limit", "a plan: limit is -5, and may be 1 to 1000000"],
+    [plan({ power: ["bad"] }), NOT_WORDS, null, "power", "a plan: power must have 12 words, and has 1"],
+    [plan({ device: [{ line: "bell" }] }), PLAN_RANGE, "device 1", "line", 'device 1: line: "bell": a line is timer, key or radar'],
+    [clock({ event: new Array(1001).fill(event) }), OUT_OF_RANGE, null, "event", "a timetable: event must have at most 1000 tables, and has 1001"],
+    [clock({ job: new Array(101).fill(job) }), OUT_OF_RANGE, null, "job", "a timetable: job must have at most 100 tables, and has 101"],
+    [clock({ event: [{ ...event, name: "a\nb" }] }), TIME_RANGE, "event 1", "name", 'event 1: name: "a\\nb": a name is one line, without control characters'],
+    [() => new Machine({ sets: "7" }), WRONG_TYPE, null, "sets", 'a machine: sets must be an integer, not "7"'],
+    [() => new Machine({ power: new Array(12).fill(null) }), WRONG_TYPE, null, "power", "a machine: power 1 must be an integer or five octal digits, not null"],
+    [() => new Machine({ power: new Array(12).fill(32768) }), NOT_WORDS, null, "power", "a machine: power 1 is 100000 (octal), and may be 0 to 77777"],
+    [() => pulseOf("key", { key: 5 }), WRONG_TYPE, null, "key", "a pulse: key must be an array of lines, not 5"],
+    [() => Machine.ofState({ ...new Machine().state, totals: 5 }), WRONG_TYPE, "totals", null, "totals must be a plain object, not 5"],
+    [() => Machine.ofState({ sets: 8 }), MISSING_KEY, null, "plan", 'a machine\'s state: the key "plan" is missing'],
+  ]) {
+    const fault = thrown(AgcError, call, told);
+    want(fault.code === code && fault.row === at && fault.key === key, `${told}: ${fault.code}, ${fault.row}, ${fault.key}`);
+  }
+  want(thrown(AgcError, clock({ steal: 101 })).number === 15 && thrown(AgcError, clock({ stael: 1 })).code === "UNKNOWN_KEY", "codes have names and numbers");
+  thrown(TypeError, clock([]), "a timetable must be a plain object, not []");
+  thrown(TypeError, clock(new Machine()), "a timetable must be a plain object, not a Machine");
+  // An object of another realm is as plain as one of this.
+  want(new Clock(runInNewContext("({ seconds: 2, job: [] })")).lasts === 200, "another realm");
+}
+
+/** A bench or a scenario has the core sets and the power-up of its machine, and a scenario its timetable. */
+function documentsStandForTheirParts() {
+  const scenario = { title: "a landing", sets: 8, seconds: 60, ...PLAN, ...SERVICER };
+  want(new Clock(scenario).lasts === 6000 && new Machine({ plan: scenario }).sets === 8 && new Machine({ sets: 8, plan: scenario }).sets === 8, "a scenario");
+  const power = [...Array(5).fill(["77777", "00000"]).flat(), "77776", "00001"];
+  const bench = { limit: 9, allowance: 5n, attends: 1, power, script: ["tick"], worker: [{ script: ["tick"], repeat: true }], device: [{ line: "key" }] };
+  want(same(new Machine({ plan: bench }).scene().phases, [0, 0, 0, 0, 0, 1]), "a bench");
+  thrown(AgcError, () => new Machine({ sets: 7, plan: scenario }), "a machine: its sets and its plan's differ");
+  thrown(AgcError, () => new Machine({ power: Array(6).fill(["77777", "00000"]).flat(), plan: bench }), "a machine: its power and its plan's differ");
+  want(same(new Machine({ plan: bench, words: new Machine().words }).scene().phases, [0, 0, 0, 0, 0, 0]), "words of an earlier machine");
 }
 
 function faultsNameTheirRow() {
   const [row, entry] = [{ at: "02000", bank: "00005", action: "nothing" }, { group: 1, phase: 1 }];
   const others = Array.from({ length: 39 }, (_, k) => ({ ...row, at: 0o2001 + k }));
   thrown(AgcError, () => new Machine({ plan: { task: [{ ...row, at: "00000" }, row] } }), 'task 1: at: "00000": an address is five octal digits, 00001 to 37777');
-  thrown(AgcError, () => new Machine({ plan: { task: [row, { ...row, bank: 32768 }, row] } }), "task 2: bank: 32768: a word is five octal digits, 00000 to 77777");
-  thrown(AgcError, () => new Machine({ plan: { task: [row, ...others, row, row] } }), "task 41: a task has two rows of the plan");
+  thrown(AgcError, () => new Machine({ plan: { task: [row, { ...row, bank: 32768 }, row] } }), "task 2: bank is 100000 (octal), and may be 0 to 77777");
+  thrown(AgcError, () => new Machine({ plan: { task: [row, ...others, row, row] } }), "task 41: 02000/00005 already has row 1");
   thrown(AgcError, () => new Machine({ plan: { task: others, phase: [entry, { ...entry, phase: 128 }] } }), "phase 2: phase is 128, and may be 1 to 127");
   thrown(AgcError, () => new Machine({ sets: 9 }), "a machine: sets is 9, and may be 7 to 8");
   thrown(AgcError, () => new Clock({ steal: 101 }), "a timetable: steal is 101, and may be 0 to 100");
-  thrown(TypeError, () => new Machine({ words: null }), "words has to be an array of words, and this is null");
-  thrown(TypeError, () => new Machine({ power: 3 }), "a machine: power has to be an array of words, and this is 3");
-  thrown(TypeError, () => sceneOf(null), "words has to be an array of words, and this is null");
+  thrown(TypeError, () => new Machine({ words: null }), "words must be an array of words, not null");
+  thrown(AgcError, () => new Machine({ power: 3 }), "a machine: power must be an array of words, not 3");
+  thrown(TypeError, () => sceneOf(null), "words must be an array of words, not null");
   const cost = { from: 0, to: 5 };
   thrown(AgcError, () => new Clock({ seed: 1, job: [{ at: 1, cost }] }), "job 1: cost: from is 0, and may be 1 to 1000000");
   thrown(AgcError, () => new Clock({ seed: 1, job: [{ at: 1, cost: { from: 3, to: 2 } }] }), "job 1: cost: to is 2, and may not be less than from, 3");
-  thrown(AgcError, () => new Clock({ job: [{ at: 1, cost: { from: 2, to: 3 } }] }), "job 1: its cost is by lot, and there is no seed");
-  thrown(AgcError, () => new Clock({ steal: [{ from: 9, to: 9, percent: 1 }] }), "steal 1: to is 9, and has to be above from, 9");
+  thrown(AgcError, () => new Clock({ job: [{ at: 1, cost: { from: 2, to: 3 } }] }), "job 1: cost is by lot, and there is no seed");
+  thrown(AgcError, () => new Clock({ steal: [{ from: 9, to: 9, percent: 1 }] }), "steal 1: to is 9, and must be above from, 9");
   const short = [{ from: 0, to: 9, percent: 1, every: 8 }];
-  thrown(AgcError, () => new Clock({ steal: short }), "steal 1: every is 8, and has to be as long as the row lasts, 9, or longer");
+  thrown(AgcError, () => new Clock({ steal: short }), "steal 1: every is 8, and must be as long as the row lasts, 9, or longer");
   const costs = [1, 2, 3, 2, 1].map((at) => ({ at, cost: 1 }));
-  thrown(AgcError, () => new Clock({ job: costs }), "job 4: one address has two costs");
+  thrown(AgcError, () => new Clock({ job: costs }), "job 4: 00002 already has row 2");
   const steal = [{ from: 9, to: 12, percent: 1 }, { from: 0, to: 10, percent: 1 }];
-  thrown(AgcError, () => new Clock({ steal }), "steal 2: two rows of stolen time hold at one time");
+  thrown(AgcError, () => new Clock({ steal }), "steal 2: it overlaps row 1");
+  const entry3 = [entry, { ...entry, group: 2 }, entry];
+  thrown(AgcError, () => new Machine({ plan: { phase: entry3 } }), "phase 3: phase 1 of group 1 already has row 1");
 }
 
 function foreignWordsHaveNoScene() {
@@ -172,8 +224,8 @@ function foreignWordsHaveNoScene() {
     want(same([told.code, told.rule, told.place, told.found], [Code.NOT_WORDS, 1, 3, bits]), `a finding: ${JSON.stringify(told)}`);
     want(told.text === `MPAC+3 of core set 0 (word 3) is ${found}: a word has at most fifteen bits`, told.text);
   }
-  thrown(TypeError, () => findingOf([...words.slice(0, 131), null]), "words: FAILREG 2 (word 131) has to be an integer, and this is null");
-  thrown(AgcError, () => sceneOf(words.slice(1)), "words: there have to be 132 or 144, and these are 131");
+  thrown(TypeError, () => findingOf([...words.slice(0, 131), null]), "words: FAILREG 2 (word 131) must be an integer, not null");
+  thrown(AgcError, () => sceneOf(words.slice(1)), "words: there must be 132 or 144, and there are 131");
 }
 
 /** Untidy words are lawful, but no request leaves them so: MODE or PUSHLOC of a job, or a gap of LST1 that is minus 0. */
@@ -188,6 +240,26 @@ function untidyWordsAreTold() {
   }
   // Of a free core set nothing is looked at but that it is free.
   want(findingOf(Array.from(machine.words, (it, k) => (k === 31 ? 5 : it))) === null, "a free core set");
+}
+
+/** Words of which TIME3 is 0 are lawful, but no machine begins with them: a task is due. */
+function aDueTaskIsTold() {
+  const machine = new Machine();
+  machine.ask("list 10 02000 00005");
+  const words = Array.from(machine.words, (it, k) => (k === 90 ? 0 : it));
+  const told = "TIME3 (word 90) is 00000: a task is due";
+  thrown(AgcError, () => new Machine({ words }), `words: ${told}`);
+  want(findingOf(words).text === told && findingOf(words).code === "NOT_NOW" && findingOf(words).place === 90, "a finding");
+}
+
+/** What a clock gave is to be asked, and it is to be told of it, before it gives another. */
+function aClockIsToldOfItsRequest() {
+  const [machine, clock] = [new Machine(), new Clock()];
+  const asked = clock.next(machine);
+  const told = "the clock was asked again, and not told by `served` what came of its request";
+  for (const again of [() => clock.next(machine), () => clock.copy().next(machine), () => machine.run(clock, 1)]) thrown(AgcError, again, told);
+  clock.served(machine, machine.ask(asked));
+  want(`${clock.next(machine)}` === "tick" && clock.time === 2, "a clock that was told");
 }
 
 /** What is kept goes on as what was kept does, and leaves it alone. */
@@ -219,7 +291,9 @@ function areKept() {
   thrown(AgcError, () => Machine.ofState({ ...state, totals: { ...state.totals, served: -1 } }));
   const many = Machine.ofState({ ...state, totals: { ...state.totals, served: 2 ** 40 + 5 } });
   want(many.report().includes("\nSERVED 1099511627781\n"), "a count above 32 bits");
-  thrown(TypeError, () => Machine.ofState({ sets: 8 }));
+  const full = Machine.ofState({ ...state, totals: { served: 2 ** 64, alarms: [2 ** 53, 0, 0], restarts: 2 ** 64 } });
+  const was53 = full.totals;
+  want(full.ask("restart") && same(full.totals, was53) && same(Machine.ofState(full.state).totals, was53), "counts stay at their most");
   thrown(AgcError, () => Clock.ofState({ ...clock.state, at: [2 ** 32, ...new Array(12).fill(0)] }));
 }
 
@@ -259,7 +333,7 @@ function anAlarmMovesWhatCountsFromIt() {
   const { alarms, ...old } = clock.state;
   want(same(alarms, { 1202: 5 }) && same(Clock.ofState(old).state.alarms, {}), "a state without alarms");
   thrown(AgcError, () => Clock.ofState({ ...old, alarms: { 1202: 8640001 } }));
-  thrown(TypeError, () => Clock.ofState({ ...old, alarms: { 1204: 1 } }));
+  thrown(AgcError, () => Clock.ofState({ ...old, alarms: { 1204: 1 } }));
   thrown(AgcError, () => new Clock({ event: [{ at: 1, after: "1204", do: "tick" }] }));
 }
 
@@ -307,35 +381,38 @@ function messagesCanBeShown() {
     [() => machine.ask(new agc.Asked("prio", [0o40], null)), "priority is 40 (octal), and may be 1 to 37"],
     [() => machine.ask(""), '"": a line may not be empty'],
     [() => machine.ask("tick\r"), '"tick\\r": a line ends with LF alone, not with CR LF'],
-    [() => machine.ask("novac 20"), '"novac 20": it has the form "novac P A W", with single spaces'],
-    [() => machine.ask("novac 20 2000 00005"), '"novac 20 2000 00005": an address is five octal digits, 00001 to 37777'],
-    [() => machine.ask("prio", 7, 8), '"prio": no request of this name has 2 numbers; it has the form "prio P"'],
+    [() => machine.ask("novac 20"), '"novac 20": it has the form "novac P A W": P is a priority, A is an address, W is a word'],
+    [() => machine.ask("novac 20 2000 00005"), '"novac 20 2000 00005": an address is five octal digits, 00001 to 37777, and this is "2000"'],
+    [() => machine.ask("prio", 7, 8), "prio takes 1 number (priority), and 2 are given"],
     [() => machine.ask("tick\n"), '"tick\\n": it has a line\'s end; give the line without it'],
-    [() => new Machine({ words: new Array(131).fill(0) }), "words: there have to be 132 or 144, and these are 131"],
+    [() => new Machine({ words: new Array(131).fill(0) }), "words: there must be 132 or 144, and there are 131"],
+    [() => machine.ask(" tick"), '" tick": it begins with a space'],
+    [() => machine.ask("tick "), '"tick ": it ends with a space'],
+    [() => machine.ask("novac  20 02000 00005"), '"novac  20 02000 00005": there are two spaces after "novac"'],
+    [() => machine.ask("end 5"), '"end 5": it has the form "end"'],
+    [() => machine.ask("prio 5"), '"prio 5": a priority is octal, 01 to 37, and this is "5"'],
+    [() => machine.ask("tick\xa0"), '"tick\\xa0": its first word is unknown; did you mean "tick"?'],
+    [() => machine.ask("\ufefftick"), '"\\ufefftick": its first word is unknown; did you mean "tick"?'],
+    [() => machine.ask("NOVAC", 16, 1024, 5), '"NOVAC": write "novac" in lowercase'],
+    [() => machine.ask("novac", 16), "novac takes 3 numbers (priority, address, word), and 1 is given"],
+    [() => machine.ask("tick", 1, 2), "tick takes no numbers, and 2 are given"],
+    [() => machine.ask("novac 20 02000 00005", 5), '"novac 20 02000 00005": a whole line takes no numbers, and 1 is given'],
+    [() => placeName(-1), "place is -1, and may be 0 to 143"],
     [() => new Machine({ plan: { task: [row] } }),
       'task 1: action 2: "tick": an action is nothing, or begins with novac, findvac, rouse or list'],
   ]) thrown(AgcError, call, told);
   for (const [call, told] of [
-    [() => new Clock().next(null), "machine has to be a Machine, and this is null"],
-    [() => new Clock().served(machine, "tick"), 'step has to be a Step, and this is "tick"'],
-    [() => machine.run(undefined, 5), "clock has to be a Clock, and this is undefined"],
-    [() => machine.run(new Clock(), 5, "row"), 'row has to be a function, and this is "row"'],
-    [() => machine.ask("novac", "20", 1, 1), 'priority has to be an integer, and this is "20"'],
-    [() => machine.ask("store", 1, true), "word has to be an integer, and this is true"],
-    [() => machine.ask(null), "request has to be a string, and this is null"],
-    [() => refusalOf("tick", { served: 0, allowance: "1", logged: 0, limit: 1 }), 'bounds: allowance has to be an integer, and this is "1"'],
-    [() => machine.ask("prio", 5n), "priority has to be an integer, and this is 5"],
-    [() => pulseOf(5), "line has to be a string, and this is 5"],
-    [() => pulseOf("key", { key: 5 }), "a pulse: key has to be an array of lines, and this is 5"],
-    [() => new Machine({ sets: "7" }), 'a machine: sets has to be an integer, and this is "7"'],
-    [() => new Machine({ power: new Array(12).fill(null) }), "a machine: power 1 has to be an integer or five octal digits, and this is null"],
-    [() => new Clock({ event: [{ at: 0, do: "tick", name: [] }] }), "event 1: name has to be a string, and this is []"],
-    [() => new Clock({ job: [{ at: true, cost: 1 }] }), "job 1: at has to be an integer or five octal digits, and this is true"],
-    [() => new Clock({ job: [{ at: 1, cost: 5n }] }), "job 1: cost has to be an integer, and this is 5"],
-    [() => new Clock({ event: [{ at: 0, do: () => "tick" }] }), "event 1: do has to be an array of lines, and this is () => \"tick\""],
-    [() => new Clock({ steal: null }), "a timetable: steal has to be an array of objects or an integer, and this is null"],
-    [() => Machine.ofState({ ...machine.state, totals: 5 }), "totals has to be an object, and this is 5"],
-    [() => placeName("x"), 'place has to be an integer, and this is "x"'],
+    [() => new Clock().next(null), "machine must be a Machine, not null"],
+    [() => new Clock().served(machine, "tick"), 'step must be a Step, not "tick"'],
+    [() => machine.run(undefined, 5), "clock must be a Clock, not undefined"],
+    [() => machine.run(new Clock(), 5, "row"), 'row must be a function, not "row"'],
+    [() => machine.ask("novac", "20", 1, 1), 'priority must be an integer, not "20"'],
+    [() => machine.ask("store", 1, true), "word must be an integer, not true"],
+    [() => machine.ask(null), "request must be a string, not null"],
+    [() => refusalOf("tick", { served: 0, allowance: "1", logged: 0, limit: 1 }), 'bounds: allowance must be an integer, not "1"'],
+    [() => machine.ask("prio", 5n), "priority must be an integer, not 5n"],
+    [() => pulseOf(5), "line must be a string, not 5"],
+    [() => placeName("x"), 'place must be an integer, not "x"'],
     [() => new Machine({ words: machine.words, power: [] }), "a machine begins with words or with power, and not with both"],
   ]) thrown(TypeError, call, told);
   machine.ask("findvac 20 02000 00005");
@@ -376,13 +453,16 @@ anEventMayComeAtTheStartAlone();
 boundsRefuse();
 pulsesAsk();
 keysAreKnown();
+documentsStandForTheirParts();
 faultsNameTheirRow();
 foreignWordsHaveNoScene();
 untidyWordsAreTold();
+aDueTaskIsTold();
+aClockIsToldOfItsRequest();
 areKept();
 areKeptAfterEachRequest();
 anAlarmMovesWhatCountsFromIt();
 lotsAreDrawn();
 lastTimesCountFromEvents();
 wordsAreNamed();
-want(/^\d+\.\d+\.\d+$/.test(VERSION) && replyText(Kind.ALARMED) === "a table is full: an alarm" && Code.OK === 0, "texts");
+want(/^\d+\.\d+\.\d+$/.test(VERSION) && replyText(Kind.ALARMED) === "a table is full: an alarm" && agc.codeText(Code.OK) === "the call was served", "texts");

@@ -31,8 +31,7 @@ def halfway():
     """A machine and a clock, 30 seconds after they began."""
     machine, clock = Machine(8, PLAN), Clock(SERVICER)
     machine.ask("list 500 02000 00005")
-    for _ in machine.run(clock, 3000):
-        pass
+    machine.run(clock, 3000)
     return machine, clock
 
 
@@ -77,15 +76,17 @@ class Keeping(unittest.TestCase):
         machine, clock = Machine(), Clock()
         self.assertEqual(self.raised(AgcError, lambda: machine.run(clock, -1)), "centiseconds is -1, and may be 0 to 4294967295")
         self.raised(TypeError, lambda: machine.run(clock, 2.5))
-        self.assertTrue([*machine.run(clock, 0)] == [] and clock.time == 0 and machine.totals.served == 0)
-        self.assertTrue(len([*machine.run(clock, 3)]) == 3 and clock.time == 3)
+        self.assertTrue(machine.run(clock, 0) == [] and clock.time == 0 and machine.totals.served == 0)
+        self.assertTrue([str(it) for it, _ in machine.run(clock, 3)] == ["tick"] * 3 and clock.time == 3)
+        one = machine.iter(clock, 3)
+        self.assertTrue(clock.time == 3 and str(next(one)[0]) == "tick" and clock.time == 4)
 
     def test_a_day_is_the_longest(self):
         """Events come up to a day, so that a timetable that lasts longer would lose them."""
         self.assertTrue(Clock({"seconds": 86400}).lasts == 8640000 and Clock({"seconds": 0.29}).lasts == 29)
         told = "a timetable: seconds is 86401, and may be 0 to 86400"
         self.assertEqual(self.raised(AgcError, lambda: Clock({"seconds": 86401})), told)
-        self.assertEqual(self.raised(AgcError, lambda: Clock({"seconds": 0.125})), "a timetable: seconds has to be whole centiseconds, and is 0.125")
+        self.assertEqual(self.raised(AgcError, lambda: Clock({"seconds": 0.125})), "a timetable: seconds must be whole centiseconds, and is 0.125")
         self.assertEqual(self.raised(AgcError, lambda: Clock({"seconds": float("nan")})), "a timetable: seconds is nan, and may be 0 to 86400")
         late = {"event": [{"at": 0, "do": "tick"}, {"at": 8640001, "do": "tick"}]}
         self.assertEqual(self.raised(AgcError, lambda: Clock(late)), "event 2: at is 8640001, and may be 0 to 8640000")
@@ -112,7 +113,7 @@ class Keeping(unittest.TestCase):
             self.assertIs(agc.refusal_of("tick", agc.Bounds(*counts)), code, counts)
         self.assertIs(agc.refusal_of("fresh", agc.Bounds(10, 10, 0, 5)), Code.SPENT)
         told = self.raised(AgcError, lambda: agc.refusal_of("tock", agc.Bounds(0, 1, 0, 1)))
-        self.assertEqual(told, "'tock': its first word is unknown; did you mean \"tick\"?")
+        self.assertEqual(told, '"tock": its first word is unknown; did you mean "tick"?')
         self.assertEqual(self.raised(AgcError, lambda: agc.refusal_of("tick", agc.Bounds(0, 2**64, 0, 1))), "bounds: allowance is 18446744073709551616, and may be 0 to 18446744073709551615")
         self.assertEqual(self.raised(AgcError, lambda: agc.refusal_of("tick", agc.Bounds(0, 1, -1, 1))), "bounds: logged is -1, and may be 0 to 4294967295")
         self.raised(TypeError, lambda: agc.refusal_of("tick", (0, 1, 0, 1)))
@@ -124,57 +125,91 @@ class Keeping(unittest.TestCase):
         self.assertTrue(agc.pulse_of("key", keys) == ["novac 20 02000 00005", "rouse 02100"] and agc.pulse_of("radar", keys) == [])
         self.assertEqual(agc.pulse_of("radar", radar="list 16250 37777 77777"), ["list 16250 37777 77777"])
         self.assertEqual(agc.pulse_of("key", ["findvac 01 00001 00000"] * 4), ["findvac 01 00001 00000"] * 4)
-        self.assertEqual(self.raised(AgcError, lambda: agc.pulse_of("key", ["nothing"] * 5)), "a pulse: key has to have 1 to 4 lines, and has 5")
-        self.assertEqual(self.raised(AgcError, lambda: agc.pulse_of("bell")), "line is 'bell', and may be timer, key or radar")
+        self.assertEqual(self.raised(AgcError, lambda: agc.pulse_of("key", ["nothing"] * 5)), "a pulse: key must have 1 to 4 lines, and has 5")
+        self.assertEqual(self.raised(AgcError, lambda: agc.pulse_of("bell")), 'line is "bell", and may be timer, key or radar')
         told = self.raised(AgcError, lambda: agc.pulse_of("key", "tick"))
-        self.assertEqual(told, "a pulse: key 1: 'tick': an action is nothing, or begins with novac, findvac, rouse or list")
+        self.assertEqual(told, 'a pulse: key 1: "tick": an action is nothing, or begins with novac, findvac, rouse or list')
 
     def test_keys_are_known(self):
-        for call, told in [
-            (lambda: Clock({"stael": 15}), "a timetable has no key 'stael': is it 'steal'?"),
-            (lambda: Clock({"job": [{"at": "04000", "costs": 1}]}), "job 1 has no key 'costs': is it 'cost'?"),
-            (lambda: Clock({"job": [{"at": "04000"}]}), "job 1 has to have 'cost'"),
-            (lambda: Clock({"event": [{"at": 0, "do": "tick"}, {"do": "tick"}]}), "event 2 has to have 'at'"),
-            (lambda: Clock({"steal": [{"from": 0, "to": 9}]}), "steal 1 has to have 'percent'"),
-            (lambda: Clock({"steal": 1.5}), "a timetable: steal has to be an int, and 1.5 is of type float"),
-            (lambda: Clock({"steal": "15"}), "a timetable: steal has to be a list of dicts or an int, and '15' is of type str"),
-            (lambda: Clock({"job": [{"at": "04000", "cost": 0.29}]}), "job 1: cost has to be an int, and 0.29 is of type float"),
-            (lambda: Clock({"job": {"at": "04000", "cost": 1}}), "a timetable: job has to be a list of dicts, and {'at': '04000', 'cost': 1} is of type dict"),
-            (lambda: Clock([]), "a timetable has to be a dict, and [] is of type list"),
-            (lambda: Machine(plan={"tasks": []}), "a plan has no key 'tasks': is it 'task'?"),
-            (lambda: Machine(plan={"task": [{"at": 1, "bank": 5}]}), "task 1 has to have 'action'"),
-            (lambda: Machine(plan={"task": [{"at": 1, "bank": 5, "action": 7}]}), "task 1: action has to be a list of lines, and 7 is of type int"),
-            (lambda: Machine(plan={"phase": [{"group": 1, "phase": 1}, {"group": 1}]}), "phase 2 has to have 'phase'"),
-            (lambda: Machine(plan={"phase": [5]}), "phase 1 has to be a dict, and 5 is of type int"),
+        """Every fault of a document is an AgcError with a code, a row and a key, and is said as `agc_watch check` says it."""
+        row, job, missing = {"at": 1, "bank": 5}, {"at": "04000", "cost": 1}, Code.MISSING_KEY
+        for call, code, at, key, told in [
+            (lambda: Clock({"stael": 15}), Code.UNKNOWN_KEY, None, "stael", 'a timetable: unknown key "stael"; did you mean "steal"?'),
+            (lambda: Clock({"job": [{"at": "04000", "costs": 1}]}), Code.UNKNOWN_KEY, "job 1", "costs", 'job 1: unknown key "costs"; did you mean "cost"?'),
+            (lambda: Clock({"job": [{**job, "seed": 1}]}), Code.UNKNOWN_KEY, "job 1", "seed", 'job 1: unknown key "seed"; it belongs above all tables'),
+            (lambda: Clock({"event": [{"at": 0, "do": "tick", "xyz": 1}]}), Code.UNKNOWN_KEY, "event 1", "xyz",
+             'event 1: unknown key "xyz"; the keys are at, after, do, every, until, name'),
+            (lambda: Clock({"seconds": 5, "script": ["tick"]}), Code.UNKNOWN_KEY, None, "script",
+             'a timetable: unknown key "script"; a bench has it, but no scenario'),
+            (lambda: Machine(plan={"seconds": 5, "worker": []}), Code.UNKNOWN_KEY, None, "worker",
+             'a plan: unknown key "worker"; a bench has it, but no scenario'),
+            (lambda: Machine(plan={"script": [], "steal": 5}), Code.UNKNOWN_KEY, None, "steal",
+             'a plan: unknown key "steal"; a scenario has it, which has "seconds" too'),
+            (lambda: Machine(plan={"tasks": []}), Code.UNKNOWN_KEY, None, "tasks", 'a plan: unknown key "tasks"; did you mean "task"?'),
+            (lambda: Clock({"task": [], "steal": 5}), missing, None, "seconds", 'a timetable: the key "seconds" is missing'),
+            (lambda: Clock({"job": [{"at": "04000"}]}), missing, "job 1", "cost", 'job 1: the key "cost" is missing'),
+            (lambda: Clock({"event": [{"at": 0, "do": "tick"}, {"do": "tick"}]}), missing, "event 2", "at", 'event 2: the key "at" is missing'),
+            (lambda: Clock({"steal": [{"from": 0, "to": 9}]}), missing, "steal 1", "percent", 'steal 1: the key "percent" is missing'),
+            (lambda: Machine(plan={"task": [row]}), missing, "task 1", "action", 'task 1: the key "action" is missing'),
+            (lambda: Machine(plan={"phase": [{"group": 1, "phase": 1}, {"group": 1}]}), missing, "phase 2", "phase", 'phase 2: the key "phase" is missing'),
+            (lambda: Clock({"steal": 1.5}), Code.WRONG_TYPE, None, "steal", "a timetable: steal must be an int, not 1.5"),
+            (lambda: Clock({"steal": "15"}), Code.WRONG_TYPE, None, "steal", "a timetable: steal is an integer or an array of tables: write [[steal]]"),
+            (lambda: Clock({"job": [{**job, "cost": 0.29}]}), Code.WRONG_TYPE, "job 1", "cost", "job 1: cost must be an int, not 0.29"),
+            (lambda: Clock({"job": job}), Code.WRONG_TYPE, None, "job", "a timetable: job is an array of tables: write [[job]]"),
+            (lambda: Clock({"event": [{"at": "0", "do": "tick"}]}), Code.WRONG_TYPE, "event 1", "at", 'event 1: at must be an int, not "0"'),
+            (lambda: Clock({"job": [{**job, "at": True}]}), Code.WRONG_TYPE, "job 1", "at", "job 1: at must be an int or five octal digits, not True"),
+            (lambda: Machine(plan={"task": [{**row, "action": 7}]}), Code.WRONG_TYPE, "task 1", "action", "task 1: action must be a list of lines, not 7"),
+            (lambda: Machine(plan={"phase": [5]}), Code.WRONG_TYPE, "phase 1", None, "phase 1 must be a dict, not 5"),
+            (lambda: Machine(plan={"script": 7}), Code.WRONG_TYPE, None, "script", "a plan: script must be a list of lines, not 7"),
+            (lambda: Machine(plan={"worker": "x"}), Code.WRONG_TYPE, None, "worker", "a plan: worker is an array of tables: write [[worker]]"),
+            (lambda: Machine(plan={"limit": -5}), Code.PLAN_RANGE, None, "limit", "a plan: limit is -5, and may be 1 to 1000000"),
+            (lambda: Machine(plan={"power": ["bad"]}), Code.NOT_WORDS, None, "power", "a plan: power must have 12 words, and has 1"),
+            (lambda: Machine(plan={"device": [{"line": "bell"}]}), Code.PLAN_RANGE, "device 1", "line", 'device 1: line: "bell": a line is timer, key or radar'),
+            (lambda: Clock({"event": [{"at": 0, "do": "tick"}] * 1001}), Code.OUT_OF_RANGE, None, "event", "a timetable: event must have at most 1000 tables, and has 1001"),
+            (lambda: Clock({"job": [job] * 101}), Code.OUT_OF_RANGE, None, "job", "a timetable: job must have at most 100 tables, and has 101"),
+            (lambda: Clock({"event": [{"at": 0, "do": "tick", "name": "a\nb"}]}), Code.TIME_RANGE, "event 1", "name",
+             'event 1: name: "a\\nb": a name is one line, without control characters'),
         ]:
-            found = self.raised(TypeError if "of type" in told else ValueError, call)
-            self.assertEqual(found, told)
-        # A whole scenario stands for its plan and for its timetable.
-        scenario = {"title": "a landing", "sets": 7, "seconds": 60, **PLAN, **SERVICER}
-        self.assertTrue(Clock(scenario).lasts == 6000 and Machine(plan=scenario).ask("tick").text == "tick")
+            with self.assertRaises(AgcError) as found:
+                call()
+            error = found.exception
+            self.assertEqual((error.code, error.row, error.key, str(error)), (code, at, key, told))
+        self.assertEqual(self.raised(TypeError, lambda: Clock([])), "a timetable must be a dict, not []")
+
+    def test_documents_stand_for_their_parts(self):
+        """A bench or a scenario has the core sets and the power-up of its machine, and a scenario its timetable."""
+        scenario = {"title": "a landing", "sets": 8, "seconds": 60, **PLAN, **SERVICER}
+        self.assertTrue(Clock(scenario).lasts == 6000 and Machine(plan=scenario).sets == 8 == Machine(8, scenario).sets)
+        bench = {"limit": 9, "script": ["tick"], "worker": [{"script": ["tick"], "repeat": True}], "device": [{"line": "key"}], "attends": 1}
+        power = ["77777", "00000"] * 5 + ["77776", "00001"]
+        self.assertEqual(Machine(plan={**bench, "power": power}).scene().phases, (0, 0, 0, 0, 0, 1))
+        told = self.raised(AgcError, lambda: Machine(7, scenario))
+        self.assertEqual(told, "a machine: its sets and its plan's differ")
+        self.assertEqual(self.raised(AgcError, lambda: Machine(power=["77777", "00000"] * 6, plan={"power": power})), "a machine: its power and its plan's differ")
+        self.assertEqual(Machine(plan={**bench, "power": power}, words=Machine().words).scene().phases, (0,) * 6)
 
     def test_a_fault_names_its_row(self):
         row, entry = {"at": "02000", "bank": "00005", "action": "nothing"}, {"group": 1, "phase": 1}
         others = [{**row, "at": 0o2000 + k} for k in range(1, 40)]
         for call, told in [
-            (lambda: Machine(plan={"task": [{**row, "at": "00000"}, row]}), "task 1: at: '00000': an address is five octal digits, 00001 to 37777"),
-            (lambda: Machine(plan={"task": [row, {**row, "bank": 32768}, row]}), "task 2: bank: 32768: a word is five octal digits, 00000 to 77777"),
-            (lambda: Machine(plan={"task": [row, *others, row, row]}), "task 41: a task has two rows of the plan"),
+            (lambda: Machine(plan={"task": [{**row, "at": "00000"}, row]}), 'task 1: at: "00000": an address is five octal digits, 00001 to 37777'),
+            (lambda: Machine(plan={"task": [row, {**row, "bank": 32768}, row]}), "task 2: bank is 100000 (octal), and may be 0 to 77777"),
+            (lambda: Machine(plan={"task": [row, *others, row, row]}), "task 41: 02000/00005 already has row 1"),
             (lambda: Machine(plan={"task": others, "phase": [entry, {**entry, "phase": 128}]}), "phase 2: phase is 128, and may be 1 to 127"),
             (lambda: Machine(sets=9), "a machine: sets is 9, and may be 7 to 8"),
-            (lambda: Machine(plan={"task": [{**row, "action": []}]}), "task 1: action has to have 1 to 4 lines, and has 0"),
+            (lambda: Machine(plan={"task": [{**row, "action": []}]}), "task 1: action must have 1 to 4 lines, and has 0"),
             (lambda: Clock({"seed": 0}), "a timetable: seed is 0, and may be 1 to 2147483646"),
-            (lambda: Machine(power=["77777"] * 11), "a machine: power has to have 12 words, and has 11"),
+            (lambda: Machine(power=["77777"] * 11), "a machine: power must have 12 words, and has 11"),
             (lambda: Clock({"steal": 101}), "a timetable: steal is 101, and may be 0 to 100"),
             (lambda: Clock({"job": [{"at": 1, "cost": {"from": 0, "to": 5}}], "seed": 1}), "job 1: cost: from is 0, and may be 1 to 1000000"),
-            (lambda: Clock.of_state({"timetable": {}, "at": [1]}), "at has to have 14 numbers, and has 1"),
-            (lambda: Machine(plan={"phase": [entry, {**entry, "group": 2}, entry]}), "phase 3: a group's phase has two entries of the plan"),
-            (lambda: Clock({"job": [{"at": k, "cost": 1} for k in (1, 2, 3, 2, 1)]}), "job 4: one address has two costs"),
-            (lambda: Clock({"steal": [{"from": 9, "to": 9, "percent": 1}]}), "steal 1: to is 9, and has to be above from, 9"),
-            (lambda: Clock({"steal": [{"from": 0, "to": 9, "percent": 1, "every": 8}]}), "steal 1: every is 8, and has to be as long as the row lasts, 9, or longer"),
+            (lambda: Clock.of_state({"timetable": {}, "at": [1]}), "at must have 14 numbers, and has 1"),
+            (lambda: Machine(plan={"phase": [entry, {**entry, "group": 2}, entry]}), "phase 3: phase 1 of group 1 already has row 1"),
+            (lambda: Clock({"job": [{"at": k, "cost": 1} for k in (1, 2, 3, 2, 1)]}), "job 4: 00002 already has row 2"),
+            (lambda: Clock({"steal": [{"from": 9, "to": 9, "percent": 1}]}), "steal 1: to is 9, and must be above from, 9"),
+            (lambda: Clock({"steal": [{"from": 0, "to": 9, "percent": 1, "every": 8}]}), "steal 1: every is 8, and must be as long as the row lasts, 9, or longer"),
             (lambda: Clock({"job": [{"at": 1, "cost": {"from": 3, "to": 2}}], "seed": 1}), "job 1: cost: to is 2, and may not be less than from, 3"),
-            (lambda: Clock({"job": [{"at": 1, "cost": {"from": 2, "to": 3}}]}), "job 1: its cost is by lot, and there is no seed"),
-            (lambda: Clock({"steal": [{"from": 9, "to": 12, "percent": 1}, {"from": 0, "to": 10, "percent": 1}]}), "steal 2: two rows of stolen time hold at one time"),
+            (lambda: Clock({"job": [{"at": 1, "cost": {"from": 2, "to": 3}}]}), "job 1: cost is by lot, and there is no seed"),
+            (lambda: Clock({"steal": [{"from": 9, "to": 12, "percent": 1}, {"from": 0, "to": 10, "percent": 1}]}), "steal 2: it overlaps row 1"),
         ]:
             found = self.raised(AgcError, call)
             self.assertEqual(found, told)
@@ -191,7 +226,7 @@ class Keeping(unittest.TestCase):
             told = agc.finding_of([*words[:3], bits, *words[4:]])
             self.assertEqual((told.code, told.rule, told.place, told.found), (Code.NOT_WORDS, 1, 3, bits))
             self.assertEqual(str(told), f"MPAC+3 of core set 0 (word 3) is {found}: a word has at most fifteen bits")
-        told = "words: MPAC+3 of core set 0 (word 3) has to be an int, and None is of type NoneType"
+        told = "words: MPAC+3 of core set 0 (word 3) must be an int, not None"
         self.assertEqual(self.raised(TypeError, lambda: agc.finding_of([*words[:3], None, *words[4:]])), told)
 
     def test_untidy_words_are_told(self):
@@ -211,6 +246,30 @@ class Keeping(unittest.TestCase):
         for wanted in (lambda: Machine(words=words, power=["77777", "00000"] * 6), lambda: Machine(power=[], words=[])):
             self.assertEqual(self.raised(ValueError, wanted), "a machine begins with words or with power, and not with both")
 
+    def test_a_due_task_is_told(self):
+        """Words of which TIME3 is 0 are lawful, but no machine begins with them: the clock is asked first."""
+        machine = Machine()
+        machine.ask("list 10 02000 00005")
+        words = [*machine.words[:90], 0, *machine.words[91:]]
+        told = "TIME3 (word 90) is 00000: a task is due"
+        self.assertEqual((str(agc.finding_of(words)), agc.finding_of(words).code, agc.finding_of(words).place), (told, Code.NOT_NOW, 90))
+        self.assertEqual(self.raised(AgcError, lambda: Machine(words=words)), f"words: {told}")
+
+    def test_a_clock_is_told_of_its_request(self):
+        """What it gave is to be asked, and it is to be told of it, before it gives another."""
+        machine, clock = Machine(), Clock()
+        asked = clock.next(machine)
+        told = "the clock was asked again, and not told by `served` what came of its request"
+        for again in (lambda: clock.next(machine), lambda: clock.copy().next(machine), lambda: machine.run(clock, 1)):
+            self.assertEqual(self.raised(AgcError, again), told)
+        clock.served(machine, machine.ask(asked))
+        self.assertEqual((str(clock.next(machine)), clock.time), ("tick", 2))
+
+    def test_what_is_none_is_not_kept(self):
+        """So that JSON of a state is JavaScript's, too."""
+        clock = Clock({"event": [{"at": 0, "do": "tick", "every": None}], "seed": None})
+        self.assertEqual(clock.state["timetable"], {"event": [{"at": 0, "do": "tick"}]})
+
     def test_machines_and_clocks_are_kept(self):
         """What is kept goes on as what was kept does, and leaves it alone."""
         machine, clock = halfway()
@@ -228,7 +287,11 @@ class Keeping(unittest.TestCase):
         self.assertEqual(Machine.of_state(listed).totals, agc.Totals(5, (1, 2, 3), 6), "as a version before wrote it")
         many = Machine.of_state({**machine.state, "totals": [2**40 + 5, [0, 0, 0], 0]})
         self.assertIn("\nSERVED 1099511627781\n", many.report())
-        self.raised(ValueError, lambda: Machine.of_state({"sets": 8}))
+        self.assertEqual(self.raised(AgcError, lambda: Machine.of_state({"sets": 8})), 'a machine\'s state: the key "plan" is missing')
+        full = Machine.of_state({**machine.state, "totals": {"served": 2**64 - 1, "alarms": [2**64 - 1] * 3, "restarts": 2**64 - 1}})
+        was = full.state["totals"]
+        self.assertTrue(full.ask("tick") and full.ask("restart") and Machine.of_state(full.state).totals == full.totals, "counts stay at their most")
+        self.assertTrue(full.state["totals"] == was and "\nSERVED 18446744073709551615\n" in full.report())
         self.raised(AgcError, lambda: Clock.of_state({**clock.state, "at": [2**32] + [0] * 12}))
         self.assertIs(type(pickle.loads(pickle.dumps(machine.totals))), agc.Totals)
 
@@ -236,7 +299,7 @@ class Keeping(unittest.TestCase):
         """They go on as one that isn't: after a tick there is still the look at NEWJOB."""
         wanted = [(str(asked), str(step)) for asked, step in Machine(plan=TAKEN_OVER).run(Clock(TAKING_OVER), 20)]
         machine, clock, found = Machine(plan=TAKEN_OVER), Clock(TAKING_OVER), []
-        while one := next(machine.run(clock, 20 - clock.time), None):
+        while one := next(machine.iter(clock, 20 - clock.time), None):
             found.append((str(one[0]), str(one[1])))
             machine, clock = Machine.of_state(machine.state), Clock.of_state(clock.state)
         self.assertTrue(found == wanted and ("change", "runs 2") in wanted and ("phase 1 1", "phased") in wanted, (found, wanted))
@@ -246,18 +309,18 @@ class Keeping(unittest.TestCase):
         key = {"name": "key", "after": "1202", "at": 10, "do": "phase 1 1"}
         machine = Machine()
         clock = Clock({"event": [{"at": 5, "do": ["novac 20 04000 00005"] * 8}, key, {"after": "key", "at": 5, "do": "phase 1 2"}]})
-        self.assertEqual(len([*machine.run(clock, 4)]), 4)
+        self.assertEqual(len(machine.run(clock, 4)), 4)
         other, its = machine.copy(), clock.copy()
-        self.assertTrue(len([*machine.run(clock, 4)]) == 12 and clock.state["alarms"] == {"1202": 5} and its.state["alarms"] == {})
+        self.assertTrue(len(machine.run(clock, 4)) == 12 and clock.state["alarms"] == {"1202": 5} and its.state["alarms"] == {})
         again = Clock.of_state(clock.state)
         self.assertEqual(clock.copy().state, clock.state)
         for one, timer in [(machine.copy(), again), (machine, clock), (other, its)]:
-            found = [(timer.time, str(asked)) for asked, _ in one.run(timer, 20) if asked.name == "phase"]
+            found = [(timer.time, str(asked)) for asked, _ in one.iter(timer, 20) if asked.name == "phase"]
             self.assertEqual(found, [(15, "phase 1 1"), (20, "phase 1 2")])
         old = {name: it for name, it in clock.state.items() if name != "alarms"}
         self.assertEqual(Clock.of_state(old).state["alarms"], {})
         self.raised(AgcError, lambda: Clock.of_state({**old, "alarms": {"1202": 8640001}}))
-        self.raised(ValueError, lambda: Clock.of_state({**old, "alarms": {"1204": 1}}))
+        self.raised(AgcError, lambda: Clock.of_state({**old, "alarms": {"1204": 1}}))
         self.raised(AgcError, lambda: Clock({"event": [{"at": 1, "after": "1204", "do": "tick"}]}))
 
     def test_a_clock_is_changed(self):
@@ -271,7 +334,7 @@ class Keeping(unittest.TestCase):
         clock.change({"seed": 9, "event": [{"at": 3, "do": "phase 1 1"}]})
         self.assertTrue(clock.state["at"][-1] == 9 and "phase 1 1" in [str(it) for it, _ in machine.run(clock, 5)])
         was = clock.state
-        self.raised(ValueError, lambda: clock.change({"stael": 15}))
+        self.raised(AgcError, lambda: clock.change({"stael": 15}))
         self.raised(AgcError, lambda: clock.change({"steal": 101}))
         self.assertEqual(clock.state, was)
 
@@ -304,41 +367,64 @@ class Keeping(unittest.TestCase):
             (lambda: machine.ask("list", 16251, 1, 1), "delay is 16251, and may be 1 to 16250"),
             (lambda: machine.ask("phase", 7, 1), "group is 7, and may be 1 to 6"),
             (lambda: machine.ask("novac", 2**32 + 1, 1, 1), "priority is 40000000001 (octal), and may be 1 to 37"),
-            (lambda: machine.ask(""), "'': a line may not be empty"),
-            (lambda: machine.ask("tick\r"), "'tick\\r': a line ends with LF alone, not with CR LF"),
-            (lambda: machine.ask("tick\n"), "'tick\\n': it has a line's end; give the line without it"),
-            (lambda: machine.ask("novac 20"), "'novac 20': it has the form \"novac P A W\", with single spaces"),
-            (lambda: machine.ask("novac 20 2000 00005"), "'novac 20 2000 00005': an address is five octal digits, 00001 to 37777"),
-            (lambda: machine.ask("prio", 7, 8), "'prio': no request of this name has 2 numbers; it has the form \"prio P\""),
-            (lambda: Machine(words=[0] * 131), "words: there have to be 132 or 144, and these are 131"),
+            (lambda: machine.ask(""), '"": a line may not be empty'),
+            (lambda: machine.ask("tick\r"), '"tick\\r": a line ends with LF alone, not with CR LF'),
+            (lambda: machine.ask("tick\n"), '"tick\\n": it has a line\'s end; give the line without it'),
+            (lambda: machine.ask("novac 20"), '"novac 20": it has the form "novac P A W": P is a priority, A is an address, W is a word'),
+            (lambda: machine.ask("novac 20 2000 00005"), '"novac 20 2000 00005": an address is five octal digits, 00001 to 37777, and this is "2000"'),
+            (lambda: machine.ask("prio", 7, 8), "prio takes 1 number (priority), and 2 are given"),
+            (lambda: Machine(words=[0] * 131), "words: there must be 132 or 144, and there are 131"),
             (lambda: Machine(plan={"task": [row]}),
-             "task 1: action 2: 'tick': an action is nothing, or begins with novac, findvac, rouse or list"),
+             'task 1: action 2: "tick": an action is nothing, or begins with novac, findvac, rouse or list'),
         ]:
             found = self.raised(AgcError, call)
             self.assertEqual(found, told)
-        told = "machine has to be a Machine, and None is of type NoneType"
+        for line, told in [
+            (" tick", '" tick": it begins with a space'),
+            ("tick ", '"tick ": it ends with a space'),
+            ("novac  20 02000 00005", '"novac  20 02000 00005": there are two spaces after "novac"'),
+            ("list 5  02000 00005", '"list 5  02000 00005": there are two spaces after "5"'),
+            ("end 5", '"end 5": it has the form "end"'),
+            ("prio 5", '"prio 5": a priority is octal, 01 to 37, and this is "5"'),
+            ("tick\xa0", '"tick\\xa0": its first word is unknown; did you mean "tick"?'),
+            ("\ufefftick", '"\\ufefftick": its first word is unknown; did you mean "tick"?'),
+            ("x" * 61, f'"{"x" * 60}..": {agc.OTHERWISE[agc.REQUEST_KINDS]}'),
+        ]:
+            self.assertEqual(self.raised(AgcError, lambda: machine.ask(line)), told)
+        for given, told in [
+            (("NOVAC", 16, 1024, 5), '"NOVAC": write "novac" in lowercase'),
+            (("novac", 16), "novac takes 3 numbers (priority, address, word), and 1 is given"),
+            (("tick", 1, 2), "tick takes no numbers, and 2 are given"),
+            (("novac 20 02000 00005", 5), '"novac 20 02000 00005": a whole line takes no numbers, and 1 is given'),
+        ]:
+            self.assertEqual(self.raised(AgcError, lambda: machine.ask(*given)), told)
+        for call, told in [
+            (lambda: agc.pulse_of("key", 5), "a pulse: key must be a list of lines, not 5"),
+            (lambda: Machine(sets="7"), 'a machine: sets must be an int, not "7"'),
+            (lambda: Machine(power=[None] * 12), "a machine: power 1 must be an int or five octal digits, not None"),
+            (lambda: Machine(power=[32768] * 12), "a machine: power 1 is 100000 (octal), and may be 0 to 77777"),
+            (lambda: Clock({"seconds": "5"}), 'a timetable: seconds must be a number, not "5"'),
+            (lambda: Clock({"event": [{"at": 0, "do": "tick", "name": []}]}), "event 1: name must be a str, not []"),
+            (lambda: Machine.of_state({**machine.state, "totals": 5}), "totals must be a dict, not 5"),
+            (lambda: agc.place_name(-1), "place is -1, and may be 0 to 143"),
+        ]:
+            self.assertEqual(self.raised(AgcError, call), told)
+        told = "machine must be a Machine, not None"
         self.assertTrue(self.raised(TypeError, lambda: Clock().next(None)) == told == self.raised(TypeError, lambda: Clock().served(None, None)))
         self.raised(TypeError, lambda: machine.run(None, 5))
         for call, told in [
-            (lambda: machine.ask("novac", 1.0, 1, 1), "priority has to be an int, and 1.0 is of type float"),
-            (lambda: machine.ask("store", 1, True), "word has to be an int, and True is of type bool"),
-            (lambda: machine.ask(None), "request has to be a str, and None is of type NoneType"),
-            (lambda: agc.refusal_of("tick", agc.Bounds(0, "1", 0, 1)), "bounds: allowance has to be an int, and '1' is of type str"),
-            (lambda: agc.pulse_of("key", 5), "a pulse: key has to be a list of lines, and 5 is of type int"),
-            (lambda: Machine(sets="7"), "a machine: sets has to be an int, and '7' is of type str"),
-            (lambda: Machine(power=[None] * 12), "a machine: power 1 has to be an int or five octal digits, and None is of type NoneType"),
-            (lambda: Clock({"seconds": "5"}), "a timetable: seconds has to be a number, and '5' is of type str"),
-            (lambda: Clock({"event": [{"at": 0, "do": "tick", "name": []}]}), "event 1: name has to be a str, and [] is of type list"),
-            (lambda: Clock({"job": [{"at": True, "cost": 1}]}), "job 1: at has to be an int or five octal digits, and True is of type bool"),
-            (lambda: Machine.of_state({**machine.state, "totals": 5}), "totals has to be a dict, and 5 is of type int"),
-            (lambda: agc.place_name("x"), "a place has to be an int, and 'x' is of type str"),
+            (lambda: machine.ask("novac", 1.0, 1, 1), "priority must be an int, not 1.0"),
+            (lambda: machine.ask("store", 1, True), "word must be an int, not True"),
+            (lambda: machine.ask(None), "request must be a str, not None"),
+            (lambda: agc.refusal_of("tick", agc.Bounds(0, "1", 0, 1)), 'bounds: allowance must be an int, not "1"'),
+            (lambda: agc.place_name("x"), 'place must be an int, not "x"'),
         ]:
             self.assertEqual(self.raised(TypeError, call), told)
         machine.ask("findvac 20 02000 00005")
         self.assertEqual(repr(machine), "<Machine: job 1 runs; jobs: 1, tasks: 0, alarms: 0>", repr(machine))
         self.assertEqual(repr(Clock({"seconds": 2, **SERVICER})), "<Clock: 0 of 200 centiseconds; jobs: 2, events: 2>")
-        other = pickle.loads(pickle.dumps(AgcError(Code.NOT_SPELLED, "'tock'")))
-        self.assertTrue((other.code, str(other)) == (Code.NOT_SPELLED, "'tock'") and agc.Lacking is AgcError)
+        other = pickle.loads(pickle.dumps(AgcError(Code.NOT_SPELLED, "'tock'", "job 1", "then")))
+        self.assertTrue((other.code, str(other), other.row, other.key) == (Code.NOT_SPELLED, "'tock'", "job 1", "then") and agc.Lacking is AgcError)
 
     def test_a_wrong_library_is_told(self):
         for named, part in [
