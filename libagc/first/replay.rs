@@ -11,10 +11,10 @@ fn main() -> Result<(), AgcError> {
         .steal(0, 8_640_000, 15)?
         .job(0o4000, 170, "end")?
         .job(0o5000, 12, "end")?
-        .event(0, 0, 0, &["phase 5 1", "list 1 02000 00005"])?
-        .event(49, 0, 0, &["list 1 02100 00005"])?;
+        .event(0, None, None, &["phase 5 1", "list 1 02000 00005"])?
+        .event(49, None, None, &["list 1 02100 00005"])?;
     let (mut machine, mut clock) = (Machine::new(7, plan)?, Clock::new(timetable)?);
-    while let Some(asked) = clock.next(&machine) {
+    while let Some(asked) = clock.next(&machine)? {
         let step = machine.ask(asked.request)?;
         clock.served(&machine, &step);
         if let Some(alarm) = step.alarm() {

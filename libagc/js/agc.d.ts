@@ -296,7 +296,7 @@ export class Clock {
      */
     get given(): number[];
     /** How many centiseconds the timetable lasts. */
-    get lasts(): any;
+    get lasts(): number;
     /** Another timetable from here on, of which what isn't named stays as it was.
    * @param {Timetable} timetable */
     change(timetable: Timetable): void;

@@ -997,6 +997,7 @@ class LentTimes {
   /** @param {Timetable} timetable */
   constructor(timetable) {
     const { says: { seconds = LAST_TIME, seed, steal, job = [], event = [] }, kept } = documentOf("a timetable", timetable, TIMES);
+    /** @type {number} */
     this.lasts = seconds;
     /** @type {Timetable} */
     this.given = kept;

@@ -144,6 +144,7 @@ pub type AgcAction = AgcRequest;
 
 /// What a call lacked: the first that applies.
 #[derive(Clone, Copy, Debug, PartialEq, Eq, Hash)]
+#[non_exhaustive]
 #[repr(u32)]
 pub enum Code {
     /// The call was served.
@@ -242,6 +243,7 @@ impl Code {
 
 /// The kinds of replies.
 #[derive(Clone, Copy, Debug, PartialEq, Eq, Hash)]
+#[non_exhaustive]
 #[repr(u32)]
 pub enum Kind {
     /// A job was established: its number.
@@ -403,11 +405,13 @@ pub const FORMS: [(&str, &[Part]); 14] = [
 pub const LAST_TIME: u32 = 8640000;
 
 /// The numbers of tables: table, key, least and most, and the octal digits that a message has, 0 where it is decimal.
-pub const KEYS: [(&str, &str, u32, u32, usize); 25] = [
+pub const KEYS: [(&str, &str, u32, u32, usize); 29] = [
     ("bench", "sets", 7, 8, 0),
     ("bench", "limit", 1, 1000000, 0),
     ("bench", "attends", 0, 1000, 0),
     ("bench", "power", 0, 32767, 5),
+    ("bench", "worker", 0, 32, 0),
+    ("bench", "device", 0, 32, 0),
     ("task", "at", 1, 16383, 5),
     ("task", "bank", 0, 32767, 5),
     ("phase", "group", 1, 6, 0),
@@ -418,6 +422,8 @@ pub const KEYS: [(&str, &str, u32, u32, usize); 25] = [
     ("scenario", "limit", 1, 1000000, 0),
     ("scenario", "power", 0, 32767, 5),
     ("scenario", "steal", 0, 100, 0),
+    ("scenario", "job", 0, 100, 0),
+    ("scenario", "event", 0, 1000, 0),
     ("steal", "from", 0, 8640000, 0),
     ("steal", "to", 0, 8640000, 0),
     ("steal", "percent", 0, 100, 0),

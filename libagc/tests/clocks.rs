@@ -41,7 +41,7 @@ impl Scenario {
                 let all = self.timetable.take().unwrap();
                 self.timetable = Some(match it[3] {
                     0 => all.steal(it[0], it[1], it[2])?,
-                    every => all.steal_every(it[0], it[1], it[2], every, it[4])?,
+                    every => all.steal_every(it[0], it[1], it[2], Some(every), Some(it[4]))?,
                 });
             }
             "job" => {
@@ -53,7 +53,8 @@ impl Scenario {
             }
             "event" => {
                 let (all, it) = (self.timetable.take().unwrap(), numbers(first));
-                let all = all.event(it[0], it[1], it[2], &parts)?;
+                let again = (it[1] > 0).then_some((it[1], it[2]));
+                let all = all.event(it[0], again.map(|it| it.0), again.map(|it| it.1), &parts)?;
                 let after = octal(first.rsplit(' ').next().unwrap());
                 self.timetable = Some(if after == 0 { all } else { all.after(after)? });
             }
@@ -80,7 +81,7 @@ impl Scenario {
         }
         let (mut other, mut copy) = (machine.clone(), clock.clone());
         for (asked, step) in machine.run(clock, rest.parse().unwrap())? {
-            assert_eq!(copy.next(&other), Some(asked));
+            assert_eq!(copy.next(&other)?, Some(asked));
             assert_eq!(other.ask(asked.request)?, step);
             assert_eq!(AgcRequest::try_from(&asked.request.to_string())?, asked.request);
             copy.served(&other, &step);
@@ -115,7 +116,7 @@ fn keeps() -> Result<(), AgcError> {
     let asked: Vec<u32> = machine.run(&mut clock, u32::MAX)?.iter().map(|it| it.0.request.kind).collect();
     assert_eq!((asked.len(), &asked[..2], clock.time(), clock.given()), (98, &[TICK, END][..], 100, [0; 8]));
     // The second and fourth centisecond are stolen: the third has its end.
-    let beat = Timetable::new(1).steal_every(2, 3, 100, 2, 100)?.job(0o4000, 2, "end")?;
+    let beat = Timetable::new(1).steal_every(2, 3, 100, Some(2), Some(100))?.job(0o4000, 2, "end")?;
     let (mut machine, mut clock) = (Machine::new(7, Plan::new())?, Clock::new(beat)?);
     let step = machine.ask("novac 20 04000 00005")?;
     clock.served(&machine, &step);
@@ -138,7 +139,7 @@ fn keeps() -> Result<(), AgcError> {
     clock.served(&machine, &step);
     assert_eq!((machine.run(&mut clock, 1)?.len(), clock.given()[0]), (1, 300 - 131 + 100));
     // Another timetable from here on: lots go on, unless it has another seed.
-    let other = Timetable::new(1).steal(0, 100, 50)?.event(3, 0, 0, &["phase 1 1"])?;
+    let other = Timetable::new(1).steal(0, 100, 50)?.event(3, None, None, &["phase 1 1"])?;
     clock.change(other.clone().seed(1)?)?;
     assert_eq!((clock.time(), clock.state().clock.lot), (1, 48271));
     clock.change(other.seed(9)?)?;
@@ -146,7 +147,7 @@ fn keeps() -> Result<(), AgcError> {
     assert!(machine.run(&mut clock, 5)?.iter().any(|it| it.0.request.to_string() == "phase 1 1"));
     // What is kept goes on as what was kept does, also where an alarm came from which an event counts.
     let full = ["novac 20 04000 00005"; 8];
-    let timetable = Timetable::new(1).event(2, 0, 0, &full)?.event(4, 0, 0, &["phase 1 1"])?.after(0o1202)?;
+    let timetable = Timetable::new(1).event(2, None, None, &full)?.event(4, None, None, &["phase 1 1"])?.after(0o1202)?;
     let (mut machine, mut clock) = (Machine::new(7, Plan::new())?, Clock::new(timetable.clone())?);
     machine.run(&mut clock, 3)?;
     let mut own = Clock::of_state(&clock.state(), timetable)?;
@@ -155,7 +156,7 @@ fn keeps() -> Result<(), AgcError> {
     assert!(wanted == found && wanted.iter().any(|it| it.0.event == Some(1)));
     // A run tells its clock of the restart, after which nothing was given to a job that is gone.
     let timetable = Timetable::new(1).job(0o4000, 5, "end")?;
-    let timetable = timetable.event(1, 0, 100, &["novac 20 04000 00005"])?.event(2, 0, 100, &["restart"])?;
+    let timetable = timetable.event(1, None, Some(100), &["novac 20 04000 00005"])?.event(2, None, None, &["restart"])?;
     let (mut machine, mut clock) = (Machine::new(7, Plan::new())?, Clock::new(timetable)?);
     assert_eq!((machine.run(&mut clock, 1)?.len(), clock.given()[0]), (2, 100));
     assert_eq!((machine.run(&mut clock, 1)?.len(), clock.given()[0]), (2, 0));
@@ -180,15 +181,27 @@ fn asks() -> Result<(), AgcError> {
     assert_eq!(lines(pulse_of(Device::Key, &["nothing", "rouse 02100"], &[])?), ["rouse 02100"]);
     assert_eq!(lines(pulse_of(Device::Timer, &[], &[])?), ["tick"]);
     let told = |found: Result<Vec<AgcRequest>, AgcError>| found.unwrap_err().to_string();
-    assert_eq!(told(pulse_of(Device::Key, &["nothing"; 5], &[])), "a pulse: key has to have 1 to 4 lines, and has 5");
+    assert_eq!(told(pulse_of(Device::Key, &["nothing"; 5], &[])), "a pulse: key must have 1 to 4 lines, and has 5");
     let action = r#"a pulse: radar 2: "end": an action is nothing, or begins with novac, findvac, rouse or list"#;
     assert_eq!(told(pulse_of(Device::Key, &[], &["nothing", "end"])), action);
     assert_eq!((refusal_of("tick", &of(9, 5))?, refusal_of("restart", &of(9, 5))?), (Code::LogFull, Code::Ok));
     assert_eq!(refusal_of("tock", &of(9, 5)).unwrap_err().code, Code::NotSpelled);
     // An event whose last time is before its first never comes.
-    let never = Timetable::new(1).event(5, 2, 4, &["restart"])?;
+    let never = Timetable::new(1).event(5, Some(2), Some(4), &["restart"])?;
     let (mut machine, mut clock) = (Machine::new(7, Plan::new())?, Clock::new(never)?);
     assert!(machine.run(&mut clock, 20)?.iter().all(|it| it.0.request == tick && it.0.event.is_none()));
+    // One without a last time comes on and on: here at 5, 10, 15 and 20.
+    let always = Timetable::new(1).event(5, Some(5), None, &["restart"])?;
+    let (mut machine, mut clock) = (Machine::new(7, Plan::new())?, Clock::new(always)?);
+    assert_eq!(machine.run(&mut clock, 20)?.iter().filter(|it| it.0.event == Some(0)).count(), 4);
+    // A clock is told of what it gave before it gives another.
+    let asked = clock.next(&machine)?.expect("a tick");
+    let told = "the clock was asked again, and not told by `served` what came of its request";
+    assert_eq!(clock.next(&machine).unwrap_err().to_string(), told);
+    assert_eq!(machine.run(&mut clock.clone(), 1).unwrap_err().code, Code::NotNow);
+    let step = machine.ask(asked.request)?;
+    clock.served(&machine, &step);
+    assert_eq!((clock.next(&machine)?.is_some(), clock.time()), (true, 22));
     Ok(())
 }
 
@@ -196,9 +209,9 @@ fn asks() -> Result<(), AgcError> {
 /// wants one.
 fn messages() -> Result<(), AgcError> {
     let (none, job) = (|| Timetable::new(1), Timetable::new(1).job(0o4000, 3, "end")?);
-    let event = Timetable::new(1).event(1, 0, 0, &["tick"])?;
+    let event = Timetable::new(1).event(1, None, None, &["tick"])?;
     for (made, told) in [
-        (none().job_asks(0o4000, 1, &["prio 07"; 8], "end"), "job 1: then has to have 1 to 8 lines, and has 9"),
+        (none().job_asks(0o4000, 1, &["prio 07"; 8], "end"), "job 1: then must have 1 to 8 lines, and has 9"),
         // 2^32 hundredths and four aren't cut to four.
         (none().job(0o4000, 42_949_673, "end"), "job 1: cost is 42949673, and may be 1 to 1000000"),
         (job.clone().job(0, 1, "end"), "job 2: at is 0 (octal), and may be 1 to 37777"),
@@ -210,20 +223,34 @@ fn messages() -> Result<(), AgcError> {
         (job.clone().at_least(4), "job 1: at_least is 4, and may be 1 to 3"),
         (job.clone().after(0o1201), "after is about the event before it, and there is none"),
         (event.clone().after(5), "event 1: after is 5 (octal), and may be 1201 to 1203"),
-        (event.event(8_640_001, 0, 0, &["tick"]), "event 2: at is 8640001, and may be 0 to 8640000"),
-        (none().event(1, 0, 0, &[]), "event 1: do has to have 1 to 16 lines, and has 0"),
-        (none().event(1, 0, 0, &["tick", "tick\n"]), r#"event 1: do 2: "tick\n": it has a line's end; give the line without it"#),
-        (none().steal(9, 9, 1), "steal 1: to is 9, and has to be above from, 9"),
+        (event.event(8_640_001, None, None, &["tick"]), "event 2: at is 8640001, and may be 0 to 8640000"),
+        (none().event(1, Some(0), None, &["tick"]), "event 1: every is 0, and may be 1 to 8640000"),
+        (none().event(1, Some(1), Some(8_640_001), &["tick"]), "event 1: until is 8640001, and may be 0 to 8640000"),
+        (none().event(1, None, None, &[]), "event 1: do must have 1 to 16 lines, and has 0"),
+        (none().event(1, None, None, &["tick", "tick\n"]), r#"event 1: do 2: "tick\n": it has a line's end; give the line without it"#),
+        (none().steal(9, 9, 1), "steal 1: to is 9, and must be above from, 9"),
         (none().steal(0, 9, 101), "steal 1: percent is 101, and may be 0 to 100"),
-        (none().steal_every(0, 9, 1, 8, 0), "steal 1: every is 8, and has to be as long as the row lasts, 9, or longer"),
+        (none().steal_every(0, 5, 10, Some(8_640_001), None), "steal 1: every is 8640001, and may be 1 to 8640000"),
+        (none().steal_every(0, 9, 1, Some(8), None), "steal 1: every is 8, and must be as long as the row lasts, 9, or longer"),
     ] {
         assert_eq!(made.unwrap_err().to_string(), told);
     }
     let told = |made: Timetable| Clock::new(made).unwrap_err().to_string();
-    assert_eq!(told(job.at_least(1)?), "job 1: its cost is by lot, and there is no seed");
+    assert_eq!(told(job.at_least(1)?), "job 1: cost is by lot, and there is no seed");
     assert_eq!(told(Timetable::new(86401)), "a timetable: seconds is 86401, and may be 0 to 86400");
     let twice = none().steal(9, 12, 1)?.steal(0, 10, 1)?;
-    assert_eq!(told(twice), "steal 2: two rows of stolen time hold at one time");
+    assert_eq!(told(twice), "steal 2: it overlaps row 1");
+    let twice = (1..=3).chain([2]).try_fold(none(), |made, at| made.job(at, 1, "end"))?;
+    assert_eq!(told(twice), "job 4: 00002 already has row 2");
+    let many = (0..1000).try_fold(none(), |made, _| made.event(1, None, None, &["tick"]))?;
+    let error = many.event(1, None, None, &["tick"]).unwrap_err();
+    assert_eq!((error.to_string().as_str(), error.key.as_deref()), ("a timetable: event must have at most 1000 tables", Some("event")));
+    let error = none().event(8_640_001, None, None, &["tick"]).unwrap_err();
+    assert_eq!((error.row.as_deref(), error.key.as_deref()), (Some("event 1"), Some("at")));
+    let state = |alarms| ClockState { clock: AgcClock::default(), alarms };
+    for (alarm, told) in [((5, 1), "alarms: code is 5 (octal), and may be 1201 to 1203"), ((0o1202, 8_640_001), "alarms: 1202 is 8640001, and may be 0 to 8640000")] {
+        assert_eq!(Clock::of_state(&state(vec![alarm]), none()).unwrap_err().to_string(), told);
+    }
     let clock = Clock::new(Timetable::new(2).job(1, 1, "end")?)?;
     assert_eq!(format!("{clock:?}"), "<Clock: 0 of 200 centiseconds; jobs: 1, events: 0>");
     Ok(())

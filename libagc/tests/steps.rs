@@ -201,8 +201,15 @@ fn messages(machine: &mut Machine) {
     assert_eq!(said(""), r#""": a line may not be empty"#);
     assert_eq!(said("tick\r"), r#""tick\r": a line ends with LF alone, not with CR LF"#);
     assert_eq!(said("tock"), r#""tock": its first word is unknown; did you mean "tick"?"#);
-    assert_eq!(said("novac 20"), r#""novac 20": it has the form "novac P A W", with single spaces"#);
-    assert_eq!(said("novac 20 2000 00005"), r#""novac 20 2000 00005": an address is five octal digits, 00001 to 37777"#);
+    assert_eq!(said("novac 20"), r#""novac 20": it has the form "novac P A W": P is a priority, A is an address, W is a word"#);
+    assert_eq!(said("novac 20 2000 00005"), r#""novac 20 2000 00005": an address is five octal digits, 00001 to 37777, and this is "2000""#);
+    assert_eq!(said(" tick"), r#"" tick": it begins with a space"#);
+    assert_eq!(said("tick "), r#""tick ": it ends with a space"#);
+    assert_eq!(said("novac  20 02000 00005"), r#""novac  20 02000 00005": there are two spaces after "novac""#);
+    assert_eq!(said("end 5"), r#""end 5": it has the form "end""#);
+    assert_eq!(said("tick\u{a0}"), r#""tick\u{a0}": its first word is unknown; did you mean "tick"?"#);
+    assert_eq!(said(&"x".repeat(61)), format!("\"{}..\": {}", "x".repeat(60), REQUEST_KINDS.otherwise));
+    assert_eq!("prio 07".parse::<AgcRequest>().unwrap().to_string(), "prio 07");
     let mut said = |kind, first, second, third| machine.ask(AgcRequest { kind, first, second, third }).unwrap_err().to_string();
     assert_eq!(said(NOVAC, 0o40, 0o2000, 5), "priority is 40 (octal), and may be 1 to 37");
     assert_eq!(said(FINDVAC, 1, 1, 32768), "word is 100000 (octal), and may be 0 to 77777");
@@ -213,9 +220,9 @@ fn messages(machine: &mut Machine) {
     let rows = (1..4).fold(Plan::new(), |plan, it| plan.task(it, 1, &["nothing"]).unwrap());
     assert_eq!(of(rows.clone().task(0, 1, &["nothing"])), "task 4: at is 0 (octal), and may be 1 to 37777");
     assert_eq!(of(rows.clone().phase(1, 128, "", "")), "phase 1: phase is 128, and may be 1 to 127");
-    assert_eq!(of(rows.phase(1, 1, "", "").unwrap().phase(1, 1, "", "")), "phase 2: a group's phase has two entries of the plan");
+    assert_eq!(of(rows.phase(1, 1, "", "").unwrap().phase(1, 1, "", "")), "phase 2: phase 1 of group 1 already has row 1");
     let row = |lines: &[&str]| of(Plan::new().task(1, 1, lines));
-    assert_eq!((row(&[]), row(&["nothing"; 5])), ("task 1: action has to have 1 to 4 lines, and has 0".into(), "task 1: action has to have 1 to 4 lines, and has 5".into()));
+    assert_eq!((row(&[]), row(&["nothing"; 5])), ("task 1: action must have 1 to 4 lines, and has 0".into(), "task 1: action must have 1 to 4 lines, and has 5".into()));
     assert_eq!(of(Plan::new().phase(1, 1, "", "tick")), r#"phase 1: task: "tick": a task begins with list"#);
     assert_eq!(Machine::new(9, Plan::new()).unwrap_err().to_string(), "a machine: sets is 9, and may be 7 to 8");
     let mut power = [0; PHASE_WORDS];
@@ -230,7 +237,7 @@ fn messages(machine: &mut Machine) {
     }
     untidy_words();
     let words = Machine::from_words(&[0; 131], Plan::new()).unwrap_err().to_string();
-    assert_eq!(words, "words: there have to be 132 or 144, and these are 131");
+    assert_eq!(words, "words: there must be 132 or 144, and there are 131");
 }
 
 /// They are lawful, but no request leaves them so: MODE or PUSHLOC of a job, or a gap of LST1 that is minus 0.
@@ -251,6 +258,13 @@ fn untidy_words() {
         assert_eq!(finding_of(&words).unwrap().unwrap().to_string(), told);
         assert_eq!((error.finding, scene_of(&words).unwrap().running), (finding_of(&words).unwrap(), 2));
     }
+    // With a TIME3 of 0 a task is due, and no machine begins.
+    let mut words = machine.words().to_vec();
+    words[90] = 0;
+    let told = "TIME3 (word 90) is 00000: a task is due";
+    assert_eq!(finding_of(&words).unwrap().unwrap().to_string(), told);
+    let error = Machine::from_words(&words, Plan::new()).unwrap_err();
+    assert_eq!((error.to_string(), error.code), (format!("words: {told}"), Code::NotNow));
     // Of a free core set nothing is looked at but that it is free.
     let mut words = machine.words().to_vec();
     words[31] = 5;
@@ -297,6 +311,13 @@ fn keeps() {
     assert_eq!(step.to_string(), format!("tick {} alarm 1201", ats.join(" ")));
     assert_eq!((step.action(), step.begins_era(), nine.ask("tick").unwrap().begins_era()), (1, true, false));
     assert!(nine.ask("restart").unwrap().begins_era());
+    // Counts stay at their most.
+    let most = AgcTotals { served: u64::MAX, alarms_1201: u64::MAX, restarts: u64::MAX, ..AgcTotals::default() };
+    let mut full = Machine::of_state(&MachineState { totals: most, ..nine.state() }, Plan::new()).unwrap();
+    for _ in 0..6 {
+        full.ask("findvac 01 00001 00000").unwrap();
+    }
+    assert_eq!((full.totals(), format!("{full:?}").ends_with("alarms: 18446744073709551615>")), (most, true));
 }
 
 fn main() {
