@@ -132,11 +132,9 @@ export const PHASE_WORDS: 12;
 export class AgcError extends Error {
     /** @param {string} code
    * @param {string} [sentence]
-   * @param {{ row?: string | null, key?: string | null }} [place] */
-    constructor(code: string, sentence?: string | undefined, { row, key }?: {
-        row?: string | null | undefined;
-        key?: string | null | undefined;
-    } | undefined);
+   * @param {string | null} [row]
+   * @param {string | null} [key] */
+    constructor(code: string, sentence?: string | undefined, row?: string | null | undefined, key?: string | null | undefined);
     /** The code's name, as "NOT_SPELLED".
  * @readonly */
     readonly code: string;

@@ -126,8 +126,8 @@ const CODE_NAMES = Object.fromEntries(Object.entries(CODE_NUMBERS).map(([name, n
 
 /** What was not served, or may not stand in a document. `code` says why, `message` the same as a sentence. */
 export class AgcError extends Error {
-  /** @param {string} code @param {string} [sentence] @param {{ row?: string | null, key?: string | null }} [place] */
-  constructor(code, sentence, { row = null, key = null } = {}) {
+  /** @param {string} code @param {string} [sentence] @param {string | null} [row] @param {string | null} [key] */
+  constructor(code, sentence, row = null, key = null) {
     super(sentence || codeText(code));
     this.name = "AgcError";
     /** The code's name, as "NOT_SPELLED". @readonly */
@@ -238,7 +238,9 @@ function isStarted() {
 class Place {
   /** @param {string} text @param {string | null} [row] @param {string | null} [key] */
   constructor(text, row = null, key = null) {
-    [this.text, this.row, this.key] = [text, row, key];
+    this.text = text;
+    this.row = row;
+    this.key = key;
   }
 
   toString() {
@@ -251,7 +253,8 @@ const keyAt = (row, key) => new Place(`${row}: ${key}`, row, key);
 
 /** What is wrong with what was given for something. @param {string} code @param {string | Place} what @param {string} told */
 function fault(code, what, told) {
-  return new AgcError(code, `${what}${told}`, what instanceof Place ? what : {});
+  const { row = null, key = null } = what instanceof Place ? what : {};
+  return new AgcError(code, `${what}${told}`, row, key);
 }
 
 /** Another type than a document has there, or a call takes. @param {string | Place} what @param {string} wanted @param {unknown} given */
