@@ -28,7 +28,7 @@ export function themeNow() {
 }
 
 /** How high all else is in the tour and for a projector, where a letter is one high. */
-const [TOUR_BESIDE, PROJECTOR_BESIDE] = [30, 25.2];
+const [TOUR_BESIDE, PROJECTOR_BESIDE] = [31.2, 25.2];
 
 /** What the tour's picture has: what its words need. */
 const TOURED = ["alarms", "work", "sets", "axis", "budget", "notes"];
@@ -40,8 +40,8 @@ function sizes({ run, tour, isProjected }) {
   const size = parseFloat(getComputedStyle(document.documentElement).fontSize);
   // (where little else is below it, it fills the window)
   const below = window.innerHeight / size - (isToured ? TOUR_BESIDE : PROJECTOR_BESIDE);
-  const lanes = isToured || isProjected ? Math.max(1.6, Math.min(3, below / (run.sets + 3.6))) : 1.87;
-  const parts = isToured ? TOURED : isProjected ? ["events", ...TOURED, "legend"] : [...PARTS, "notes", "legend"];
+  const lanes = (isToured || isProjected) && window.innerWidth >= 54 * size ? Math.max(1.6, Math.min(3, below / (run.sets + 3.6))) : 1.87;
+  const parts = [...(isToured ? TOURED : isProjected ? ["events", ...TOURED] : [...PARTS, "notes"]), "legend"];
   return { high: Math.round(lanes * size), text: Math.round(0.8 * size), parts };
 }
 
@@ -90,7 +90,9 @@ function paintNow(now) {
   assign(by("fit"), { disabled: isWhole });
   assign(by("dismiss"), { hidden: now.before === null });
   for (const id of ["cursor", "range", "future"]) Object.assign(by(id).style, { top: `${top}px`, height: `${bottom - top}px` });
-  Object.assign(by("future").style, { left: `${sheet.left}px`, width: `${sheet.right - sheet.left + 4}px` });
+  const end = now.tour.step === 1 ? sheet.bands.findLast((it) => it.kind === "budget")?.bottom ?? bottom : bottom;
+  Object.assign(by("future").style, { left: `${sheet.left}px`, width: `${sheet.right - sheet.left + 4}px`, height: `${end + 4 - top}px` });
+  by("future").style.setProperty("--axis", `${bottom - top}px`);
   tellLanes(now, sheet);
   drawAt(now);
 }
@@ -125,8 +127,6 @@ function drawAt({ at, tour, run }) {
   if (due.length > 0) addMarks(by("lanes-chart"), due, themeNow());
   drawn.late = drawn.late.filter((it) => !due.includes(it));
   assign(by("future"), { hidden: !isVeiled });
-  by("future").style.height = `${(tour.step === 1 ? sheet.height : sheet.bottom) - sheet.top}px`;
-  by("future").style.setProperty("--axis", `${sheet.bottom - sheet.top}px`);
   by("future").style.clipPath = `inset(0 0 0 ${Math.max(0, x - sheet.left)}px)`;
 }
 

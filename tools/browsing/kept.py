@@ -56,7 +56,7 @@ def kept(browser, folder):
     go_to(browser, "3")
     settled(browser)
     browser.click("examples")
-    browser.value("Array.from(document.querySelectorAll('.choices button')).find((it) => it.textContent.startsWith('A landing: when')).click()")
+    browser.value("Array.from(document.querySelectorAll('.choices button')).find((it) => it.textContent.startsWith('When does the first')).click()")
     trial.expect("another document", settled(browser) == "#landing")
     browser.value("history.back()")
     wait_for(browser, "Request 3 of")

@@ -9,11 +9,11 @@ from browsing.pages import TOP, open_text, says, texts
 LOOKS = """(() => {
   const style = (what, name, pseudo) => getComputedStyle(document.querySelector(what), pseudo)[name];
   const by = (id) => document.getElementById(id);
-  return [style('.full', 'boxShadow').includes('8px'), style('tr.change td', 'content', '::after'), style('tr.refused td', 'textDecorationLine'),
+  return [style('.full', 'boxShadow').includes('6px'), style('tr.change td', 'content', '::after'), style('tr.refused td', 'textDecorationLine'),
     style('li.asleep', 'borderTopStyle'),
     ...['sentence', 'outcome', 'hint'].map((it) => `${by(it).role} ${by(it).ariaLive}`),
     ...Array.from(document.querySelectorAll('main ol, #account'), (it) => by(it.getAttribute('aria-labelledby')).textContent),
-    ...Array.from(document.querySelectorAll('.bar button'), (it) => it.ariaLabel ?? it.innerText.replace(/[^A-Za-z]/g, '')),
+    ...Array.from(document.querySelectorAll('.bar button, .transport .steps:not(.zoom) button'), (it) => it.ariaLabel ?? it.innerText.replace(/[^A-Za-z]/g, '')),
     ...Array.from(document.querySelectorAll('#rows th'), (it) => it.textContent)].join(', ');
 })()"""
 LOOK = ('true, " Δ", line-through, dashed, status polite, status polite, status polite, Alarm 1202: why, Core sets: 7 of 7 in use, , VAC areas: 0 of 5 in use, Waitlist: 0 of 9 in use, Phases, '
