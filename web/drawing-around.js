@@ -113,15 +113,15 @@ export function drawLegend(sheet) {
   const isThere = (/** @type {RegExp} */ fill) => marks.some((it) => fill.test(it.fill ?? ""));
   const lines = marks.filter((it) => it.kind === "path" && typeof it.told === "string" && it.fill === undefined);
   const entries = [
-    ...(isThere(/^b[0-9]/) ? [{ text: "a job runs", fill: "b7" }] : []), ...(isThere(/^p[0-9]/) ? [{ text: "it waits", fill: "p7" }] : []),
-    ...(isThere(/^h[0-9]/) ? [{ text: "it sleeps", fill: "h7", hatch: "p7" }] : []),
+    ...(isThere(/^b[0-9]/) ? [{ text: "runs", fill: "b7" }] : []), ...(isThere(/^p[0-9]/) ? [{ text: "waits", fill: "p7" }] : []),
+    ...(isThere(/^h[0-9]/) ? [{ text: "sleeps", fill: "h7", hatch: "p7" }] : []),
     ...[["alarm", "alarm"], ["ink", "restart or fresh start"]].flatMap(([stroke, text]) =>
       lines.flatMap((it) => (it.kind === "path" && it.stroke === stroke ? { text, line: it } : [])).slice(0, 1)),
     ...[["ink", -1, "asked for"], ["ink", 1, "deadline"], ["alarm", 1, "deadline missed"]].flatMap(([fill, down, text]) =>
       (marks.some((it) => it.kind === "path" && it.fill === fill && it.points.length === 4 && Math.sign(it.points[1][1] - it.points[0][1]) === down) ? { text, fill, down } : [])),
     ...(withName.length > 0 ? withName : [...named]).map(([text, fill]) => ({ text, fill })),
   ];
-  let [x, y] = [8, sheet.y + 8];
+  let [x, y] = [8, sheet.y + 4];
   for (const { text, fill, hatch, down, line: like } of /** @type {{ text: string, fill?: string, hatch?: string, down?: number, line?: any }[]} */ (entries)) {
     const width = 24 + textWidth(text, size);
     if (x > 8 && x + width > sheet.width - 8) [x, y] = [8, y + line];

@@ -182,8 +182,8 @@ export class Sheet {
     this.taken.push(box);
     const late = this.bottom === 0 ? { ends: box[1] } : {};
     if (ground !== undefined) this.layers[2].push({ kind: "rect", x: left - 4, y: y - 0.7 * size, width: width + 8, height: 1.4 * size, fill: ground, round: 3, ...late });
-    const at = /** @type {const} */ (ground !== "alarm" ? { x, anchor } : { x: left + width / 2, anchor: "middle" });
-    this.layers[2].push({ kind: "text", y: y + 0.36 * size, text, size, fill, isBold, ...at, ...late });
+    this.layers[2].push({ kind: "text", x: ground === "alarm" ? left + width / 2 : x, y: y + 0.36 * size, text, size, fill, isBold,
+      anchor: ground === "alarm" ? "middle" : anchor, ...late });
     return true;
   }
 

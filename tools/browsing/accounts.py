@@ -51,7 +51,7 @@ def try_accounts(browser, trial):
     browser.press("ArrowRight")
     told = browser.value("Array.from(document.querySelectorAll('#sets li'), (it) => `${it.className}: ${it.innerText}`).slice(0, 2)")
     trial.expect(f"{told}", told[0].split("\n") == ["j4 runs new: set 0", "job 2", "runs", "at 04100", "priority 24", "changed"]
-                 and told[1].split("\n") == ["asleep s3 turns-over new: set 1", "job 1", "asleep, area 1", "at 06000", "priority 16", "changed"])
+                 and told[1].split("\n") == ["asleep h3 turns-over new: set 1", "job 1", "asleep, area 1", "at 06000", "priority 16", "changed"])
     trial.same("the words stay", browser.value("document.querySelector('#words-rows tr').textContent"), "000002core set 0, number")
     browser.value("document.getElementById('words-box').open = false")
 
