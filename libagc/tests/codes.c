@@ -62,6 +62,8 @@ static void images(void) {
     BROKEN("agc_dispatch", agc_dispatch(w, s).code);
     BROKEN("agc_set_phase", agc_set_phase(w, s, 1, 0));
     BROKEN("agc_record_alarm", agc_record_alarm(w, s, AGC_ALARM_1107));
+    IS("agc_check", 0, (agc_clear(w, 8), w[143] = 0, agc_check(w, 7).code));
+    IS("agc_check", 0, (agc_clear(w, 8), w[143] = 0100000, agc_check(w, 7).code));
     IS("agc_clear", 1, agc_clear(w, 6));
     IS("agc_clear", 1, agc_clear(w, 4294967295u));
     IS("agc_clear", 0, agc_clear(w, s));

@@ -1,34 +1,23 @@
 -- The rules of lawful words, and which word breaks one.
 use Rattle.std.specs.Prelude.{◌≡◌, ◌⊎◌, ℕ, zero, suc, ◌+◌, ◌-◌, ◌*◌, ◌/◌, ◌%◌, ◌<◌, ◌≤◌, ◌==◌}
-use Rattle.std.specs.Prelude.{nat_lt, ◌&&◌, ◌||◌, not, Bool, false, IsTrue, if◌then◌else◌, List}
-use Rattle.std.specs.Prelude.{slice_index, Option, IfSome}
+use Rattle.std.specs.Prelude.{nat_lt, ◌&&◌, ◌||◌, not, Bool, false, IsTrue, if◌then◌else◌, List, []}
+use Rattle.std.specs.Prelude.{◌∷◌, slice_get, slice_index, Option, Some, IfSome}
 use Rattle.agc_word.specs.Layout.{set_place, use_place, address_of, newjob, time3, lst1, lst2}
 use Rattle.agc_word.specs.Layout.{use_words, phase_words, failreg}
 use Rattle.agc_image.specs.declared.rule.Rule.{Rule}
 use Rattle.agc_image.specs.declared.rule.Rule.TheVariants as rule
 use Rattle.agc_image.specs.declared.explaining.BrokenRule.{BrokenRule}
 
--- the number of a rule
-abbrev pub number_of : Rule → ℕ
-number_of rule.FifteenBits = 1
-number_of rule.JobNumber = 2
-number_of rule.JobNumberTwice = 3
-number_of rule.JobAddress = 4
-number_of rule.JobPriority = 5
-number_of rule.JobArea = 6
-number_of rule.JobAreaTwice = 7
-number_of rule.AwakeInFront = 8
-number_of rule.UseWord = 9
-number_of rule.NewjobNamesBest = 10
-number_of rule.Time3 = 11
-number_of rule.TaskNear = 12
-number_of rule.TaskAddress = 13
-number_of rule.Gap = 14
-number_of rule.NoGapAfterLast = 15
-number_of rule.NoTaskAfterLast = 16
-number_of rule.PhaseRange = 17
-number_of rule.PhasePair = 18
-number_of rule.AlarmCodes = 19
+-- the rules by their numbers, from 1
+abbrev pub rules : List Rule
+rules =
+    rule.FifteenBits ∷ rule.JobNumber ∷ rule.JobNumberTwice ∷ rule.JobAddress ∷ rule.JobPriority
+    ∷ rule.JobArea ∷ rule.JobAreaTwice ∷ rule.AwakeInFront ∷ rule.UseWord ∷ rule.NewjobNamesBest
+    ∷ rule.Time3 ∷ rule.TaskNear ∷ rule.TaskAddress ∷ rule.Gap ∷ rule.NoGapAfterLast
+    ∷ rule.NoTaskAfterLast ∷ rule.PhaseRange ∷ rule.PhasePair ∷ rule.AlarmCodes ∷ []
+
+abbrev pub IsNumberOf : ℕ → Rule → Type 0
+IsNumberOf number this = (1 ≤ number) × (slice_get rules (number - 1) ≡ Some this)
 
 -- the core set in which a place of it stands: set 7 is after all other tables
 abbrev pub set_at : ℕ → ℕ
@@ -167,7 +156,8 @@ Breaks rule.JobAreaTwice words sets place =
     × ¬ (urgency_at words (set_at place) % 512 ≡ 0)
     × IsTrue (any_set (holds_area words (urgency_at words (set_at place) % 512)) (set_at place))
 Breaks rule.AwakeInFront words sets place =
-    (place ≡ 11) × (is_awake words 0 ≡ false) × IsTrue (any_set (is_awake words) sets)
+    (place ≡ 11) × (is_awake words 0 ≡ false)
+    × ((set : ℕ) × (set < sets) × IsTrue (is_awake words set))
 Breaks rule.UseWord words sets place =
     (use_words ≤ place) × (place < newjob)
     × ¬ (slice_index words place ≡ use_word words sets (place - use_words + 1))

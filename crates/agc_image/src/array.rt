@@ -15,7 +15,7 @@ fn size_of(sets: Sets) -> usize
 }
 
 /// Whether the first numbers, as many as these core sets have words, are words.
-pub(crate) fn are_words(array: &[u16; 144], sets: Sets) -> bool
+pub fn are_words(array: &[u16; 144], sets: Sets) -> bool
     ensures { IsTrue result ↔ AreWords (image_of (count_of sets) array.now) }
 {
     // The greatest is found with no branch a number, which the compiler does eight at a time.
@@ -27,7 +27,7 @@ pub(crate) fn are_words(array: &[u16; 144], sets: Sets) -> bool
 }
 
 /// Reads the first numbers, as many as these core sets have words.
-pub(crate) fn read(array: &[u16; 144], sets: Sets, image: &mut Erasable)
+pub fn read(array: &[u16; 144], sets: Sets, image: &mut Erasable)
     requires words { AreWords (image_of (count_of sets) array.now) }
     requires size { length image.old ≡ size_of sets }
     ensures { image.new ≡ image_of (count_of sets) array.now }

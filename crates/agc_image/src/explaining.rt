@@ -7,11 +7,9 @@ ghost use Rattle.agc_image.specs.Rules.{first_left, urgency_at, use_word};
 
 use crate::rule::Rule;
 use agc_word::layout::{
-    FAILREG, LST1, LST2, NEWJOB, PHASE_WORDS, SET_SIZE, TIME3, address_of, set_place, use_place,
+    FAILREG, LST1, LST2, NEWJOB, OTHERS_SIZE, PHASE_WORDS, SET_SIZE, TIME3, address_of, set_place,
+    use_place,
 };
-
-/// For a word that other words don't determine.
-pub const ANY: u32 = 0xFFFF;
 
 /// A rule of lawful words that a word breaks.
 #[derive(Clone, Copy)]
@@ -21,18 +19,18 @@ pub struct BrokenRule {
     pub place: usize,
     /// The number that would have to be there, if the other words leave only one choice; otherwise
     /// 65535.
-    pub wanted: u32,
+    pub wanted: u16,
 }
 
 /// A broken rule at a place where several words would do.
 fn at(rule: Rule, place: usize) -> Option<BrokenRule>
     ensures { result ≡ Some (record { rule = rule; place = place; wanted = 0xFFFF }) }
 {
-    right(rule, place, ANY)
+    right(rule, place, 0xFFFF)
 }
 
 /// A broken rule at a place where only this word is right.
-fn right(rule: Rule, place: usize, wanted: u32) -> Option<BrokenRule>
+fn right(rule: Rule, place: usize, wanted: u16) -> Option<BrokenRule>
     ensures { result ≡ Some (record { rule = rule; place = place; wanted = wanted }) }
 {
     Some(BrokenRule {
@@ -92,22 +90,6 @@ fn urgency_at(words: &[u16; 144], set: usize) -> u16
     }
 }
 
-/// Whether a core set holds a job of this number.
-fn holds_number(words: &[u16; 144], number: u16, set: usize) -> bool
-    requires { set ≤ 7 }
-    ensures { result ≡ holds_number words.now number set }
-{
-    is_held(words, set) && words[set_place(set)] == number
-}
-
-/// Whether the job of a core set owns the area at this address.
-fn holds_area(words: &[u16; 144], address: u16, set: usize) -> bool
-    requires { set ≤ 7 }
-    ensures { result ≡ holds_area words.now address set }
-{
-    is_held(words, set) && urgency_at(words, set) % 512 == address
-}
-
 /// Whether one of the first `sets` core sets holds a job of this number.
 #[tactic(auto, unfolding(crate::specs::Rules::any_set))]
 fn has_number(words: &[u16; 144], sets: usize, number: u16) -> bool
@@ -116,7 +98,7 @@ fn has_number(words: &[u16; 144], sets: usize, number: u16) -> bool
 {
     let mut found = false;
     for set in 0..sets {
-        found = found || holds_number(words, number, set);
+        found = found || (is_held(words, set) && words[set_place(set)] == number);
     }
     found
 }
@@ -129,20 +111,7 @@ fn has_area(words: &[u16; 144], sets: usize, address: u16) -> bool
 {
     let mut found = false;
     for set in 0..sets {
-        found = found || holds_area(words, address, set);
-    }
-    found
-}
-
-/// Whether a job is awake in one of the first `sets` core sets.
-#[tactic(auto, unfolding(crate::specs::Rules::any_set))]
-fn one_awake(words: &[u16; 144], sets: usize) -> bool
-    requires { sets ≤ 8 }
-    ensures { result ≡ any_set (is_awake words.now) sets }
-{
-    let mut found = false;
-    for set in 0..sets {
-        found = found || is_awake(words, set);
+        found = found || (is_held(words, set) && urgency_at(words, set) % 512 == address);
     }
     found
 }
@@ -206,13 +175,14 @@ fn in_sets(words: &[u16; 144], sets: usize) -> Option<BrokenRule>
     ensures { IsFound words.now sets result }
 {
     for set in 0..sets {
-        match in_job(words, sets, set) {
-            Some(broken) => return Some(broken),
-            None => {}
+        if let Some(broken) = in_job(words, sets, set) {
+            return Some(broken);
         }
     }
-    if one_awake(words, sets) && !is_awake(words, 0) {
-        return at(Rule::AwakeInFront, 11);
+    for set in 0..sets {
+        if is_awake(words, set) && !is_awake(words, 0) {
+            return at(Rule::AwakeInFront, 11);
+        }
     }
     None
 }
@@ -239,7 +209,7 @@ fn in_areas(words: &[u16; 144], sets: usize) -> Option<BrokenRule>
     for area in 1..6usize {
         let wanted = use_word(words, sets, area);
         if words[use_place(area)] != wanted {
-            return right(Rule::UseWord, use_place(area), u32::from(wanted));
+            return right(Rule::UseWord, use_place(area), wanted);
         }
     }
     None
@@ -307,7 +277,7 @@ fn in_newjob(words: &[u16; 144], sets: usize) -> Option<BrokenRule>
 {
     let wanted = newjob_naming(words, best_set(words, sets));
     if words[NEWJOB] != wanted {
-        return right(Rule::NewjobNamesBest, NEWJOB, u32::from(wanted));
+        return right(Rule::NewjobNamesBest, NEWJOB, wanted);
     }
     None
 }
@@ -399,9 +369,8 @@ fn in_tasks(words: &[u16; 144], count: usize) -> Option<BrokenRule>
         return at(Rule::Time3, TIME3);
     }
     for place in 0..count {
-        match in_task(words, place, count) {
-            Some(broken) => return Some(broken),
-            None => {}
+        if let Some(broken) = in_task(words, place, count) {
+            return Some(broken);
         }
     }
     None
@@ -438,7 +407,7 @@ fn in_phases(words: &[u16; 144]) -> Option<BrokenRule>
             return at(Rule::PhaseRange, place + 1);
         }
         if words[place] != minus {
-            return right(Rule::PhasePair, place, u32::from(minus));
+            return right(Rule::PhasePair, place, minus);
         }
     }
     None
@@ -465,7 +434,7 @@ fn in_failreg(words: &[u16; 144]) -> Option<BrokenRule>
     } else if second != 0 && !is_code(second) {
         at(Rule::AlarmCodes, FAILREG + 1)
     } else if second == 0 && latest != first {
-        right(Rule::AlarmCodes, FAILREG + 2, u32::from(first))
+        right(Rule::AlarmCodes, FAILREG + 2, first)
     } else if second != 0 && !is_code(latest) {
         at(Rule::AlarmCodes, FAILREG + 2)
     } else {
@@ -478,16 +447,10 @@ fn in_others(words: &[u16; 144]) -> Option<BrokenRule>
     ensures { (sets : ℕ) → IsFound words.now sets result }
 {
     let count = tasks_in(words);
-    if let Some(broken) = in_tasks(words, count) {
-        return Some(broken);
-    }
-    if let Some(broken) = after_tasks(words, count) {
-        return Some(broken);
-    }
-    match in_phases(words) {
-        Some(broken) => Some(broken),
-        None => in_failreg(words),
-    }
+    in_tasks(words, count)
+        .or(after_tasks(words, count))
+        .or(in_phases(words))
+        .or(in_failreg(words))
 }
 
 /// The first rule of lawful words that those of seven or eight core sets break; None if they break
@@ -496,17 +459,9 @@ pub fn first_broken(words: &[u16; 144], sets: usize) -> Option<BrokenRule>
     requires { sets ≤ 8 }
     ensures { IsFound words.now sets result }
 {
-    if let Some(broken) = wide(words, 48 + 12 * sets) {
-        return Some(broken);
-    }
-    if let Some(broken) = in_sets(words, sets) {
-        return Some(broken);
-    }
-    if let Some(broken) = in_areas(words, sets) {
-        return Some(broken);
-    }
-    match in_newjob(words, sets) {
-        Some(broken) => Some(broken),
-        None => in_others(words),
-    }
+    wide(words, OTHERS_SIZE + SET_SIZE * sets)
+        .or(in_sets(words, sets))
+        .or(in_areas(words, sets))
+        .or(in_newjob(words, sets))
+        .or(in_others(words))
 }

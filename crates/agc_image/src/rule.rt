@@ -1,6 +1,5 @@
 // The rules of lawful words.
-ghost use Rattle.std.specs.Prelude.{◌≡◌};
-ghost use Rattle.agc_image.specs.Rules.{number_of};
+ghost use Rattle.agc_image.specs.Rules.{IsNumberOf};
 
 /// A rule that lawful words keep.
 #[derive(Clone, Copy, PartialEq, Eq)]
@@ -29,7 +28,7 @@ pub enum Rule {
 impl Rule {
     /// Its number, 1 to 19.
     pub fn number(self) -> u32
-        ensures { result ≡ number_of self }
+        ensures { IsNumberOf result self }
     {
         match self {
             Rule::FifteenBits => 1,
@@ -54,54 +53,63 @@ impl Rule {
         }
     }
 
-    /// The rule of a number; None for a number that no rule has.
-    pub fn of_number(number: u32) -> Option<Rule> {
-        match number {
-            1 => Some(Rule::FifteenBits),
-            2 => Some(Rule::JobNumber),
-            3 => Some(Rule::JobNumberTwice),
-            4 => Some(Rule::JobAddress),
-            5 => Some(Rule::JobPriority),
-            6 => Some(Rule::JobArea),
-            7 => Some(Rule::JobAreaTwice),
-            8 => Some(Rule::AwakeInFront),
-            9 => Some(Rule::UseWord),
-            10 => Some(Rule::NewjobNamesBest),
-            11 => Some(Rule::Time3),
-            12 => Some(Rule::TaskNear),
-            13 => Some(Rule::TaskAddress),
-            14 => Some(Rule::Gap),
-            15 => Some(Rule::NoGapAfterLast),
-            16 => Some(Rule::NoTaskAfterLast),
-            17 => Some(Rule::PhaseRange),
-            18 => Some(Rule::PhasePair),
-            19 => Some(Rule::AlarmCodes),
-            _ => None,
+    /// The sentence of the rule of a number, without a full stop; None for a number that no rule
+    /// has.
+    pub fn sentence(number: u32) -> Option<&'static str> {
+        for (rule, sentence) in &SENTENCES {
+            if rule.number() == number {
+                return Some(sentence);
+            }
         }
-    }
-
-    /// The rule as a sentence, without a full stop.
-    pub fn text(self) -> &'static str {
-        match self {
-            Rule::FifteenBits => "a word has at most fifteen bits",
-            Rule::JobNumber => "a job's number is 1 to the number of core sets",
-            Rule::JobNumberTwice => "no two jobs have one number",
-            Rule::JobAddress => "LOC of a job is an address, 1 to 037777",
-            Rule::JobPriority => "PRIORITY of a job has a priority, 1 to 31",
-            Rule::JobArea => "PRIORITY of a job ends with a VAC area's address, or 0",
-            Rule::JobAreaTwice => "no two jobs own one VAC area",
-            Rule::AwakeInFront => "where a job is awake, the job in core set 0 is",
-            Rule::UseWord => "a use word is 0 where a job owns the area, else its address",
-            Rule::NewjobNamesBest => "NEWJOB names the best job's core set",
-            Rule::Time3 => "TIME3 isn't negative, and is 0 where no task waits",
-            Rule::TaskNear => "no task is more than 16250 centiseconds away",
-            Rule::TaskAddress => "a task's address is 1 to 037777",
-            Rule::Gap => "LST1 between two tasks is 1 or 0, or negative",
-            Rule::NoGapAfterLast => "LST1 behind the last task is 057777",
-            Rule::NoTaskAfterLast => "LST2 behind the last task is 0",
-            Rule::PhaseRange => "a phase is at most 127",
-            Rule::PhasePair => "-PHASE is the complement of PHASE",
-            Rule::AlarmCodes => "FAILREG has codes of alarms: the first, the second and the latest",
-        }
+        None
     }
 }
+
+const SENTENCES: [(Rule, &str); 19] = [
+    (Rule::FifteenBits, "a word has at most fifteen bits"),
+    (
+        Rule::JobNumber,
+        "a job's number is 1 to the number of core sets",
+    ),
+    (Rule::JobNumberTwice, "no two jobs have one number"),
+    (Rule::JobAddress, "LOC of a job is an address, 1 to 037777"),
+    (
+        Rule::JobPriority,
+        "PRIORITY of a job has a priority, 1 to 31",
+    ),
+    (
+        Rule::JobArea,
+        "PRIORITY of a job ends with a VAC area's address, or 0",
+    ),
+    (Rule::JobAreaTwice, "no two jobs own one VAC area"),
+    (
+        Rule::AwakeInFront,
+        "where a job is awake, the job in core set 0 is",
+    ),
+    (
+        Rule::UseWord,
+        "a use word is 0 where a job owns the area, else its address",
+    ),
+    (
+        Rule::NewjobNamesBest,
+        "NEWJOB names the best job's core set",
+    ),
+    (
+        Rule::Time3,
+        "TIME3 isn't negative, and is 0 where no task waits",
+    ),
+    (
+        Rule::TaskNear,
+        "no task is more than 16250 centiseconds away",
+    ),
+    (Rule::TaskAddress, "a task's address is 1 to 037777"),
+    (Rule::Gap, "LST1 between two tasks is 1 or 0, or negative"),
+    (Rule::NoGapAfterLast, "LST1 behind the last task is 057777"),
+    (Rule::NoTaskAfterLast, "LST2 behind the last task is 0"),
+    (Rule::PhaseRange, "a phase is at most 127"),
+    (Rule::PhasePair, "-PHASE is the complement of PHASE"),
+    (
+        Rule::AlarmCodes,
+        "FAILREG has codes of alarms: the first, the second and the latest",
+    ),
+];

@@ -3,7 +3,7 @@ pub mod Emptying
 pub mod Moving
 pub mod Tidy
 pub mod Stepping
-pub mod Coding
 pub mod Rising
 pub mod Spelling
 pub mod Pulsing
+pub mod Finding

@@ -1,25 +1,30 @@
 -- From seven core sets to eight.
-use Rattle.std.proofs.Common.{◌≡◌, ℕ, List, length, refl, sym, subst, inr, arith}
+use Rattle.std.proofs.Common.{◌≡◌, ℕ, Bool, true, false, not, List, length, refl, ap, sym, subst, ◌∙◌, inl, inr, arith}
 use Rattle.std.proofs.lemmas.List.{take_all}
-use Rattle.agc_image.specs.Codes.{Coded}
+use Rattle.libagc.specs.Codes.{Coded, code_unless}
+use Rattle.libagc.specs.declared.fault.Fault.TheVariants.{NotNow}
 use Rattle.agc_image.specs.Images.{size_with, image_of, AreWords, IsImage}
-use Rattle.agc_image.proofs.Codes.{coded_not_now}
 use Rattle.agc_machine.specs.Image.{IsLawfulImage}
 use Rattle.agc_machine.specs.Migration.{Migrates}
-use Rattle.libagc.specs.Tasks.{NoneDue}
+use Rattle.libagc.specs.Tasks.{one_due}
 
 -- an image whose words aren't lawful between requests has a task that is due
-pub inside_a_tick : (code : ℕ) (array words : List ℕ) → IsImage 7 array → words ≡ image_of 7 array → ¬ IsLawfulImage words → code ≡ 6 → Coded code 7 array (Unit {0}) (Unit {0}) (NoneDue 7 array)
+due_inside : (array words : List ℕ) → IsImage 7 array → words ≡ image_of 7 array → ¬ IsLawfulImage words → (due : Bool) → one_due 7 array ≡ due → due ≡ true
+due_inside array words image same unlawful true is = refl
+due_inside array words image same unlawful false none = absurd (unlawful (subst IsLawfulImage (sym same) (record {
+  tables = record {
+    size = image.lawful.cores.sets.sized;
+    cores = image.lawful.cores;
+    waits = image.lawful.waits;
+    phases = image.lawful.phases;
+  };
+  none_due = none;
+})))
+
+pub inside_a_tick : (code : ℕ) (array words : List ℕ) → IsImage 7 array → words ≡ image_of 7 array → ¬ IsLawfulImage words → code ≡ 6 → Coded code 7 array (code_unless (not (one_due 7 array)) NotNow)
 inside_a_tick code array words image same unlawful is =
-    rw is (coded_not_now 7 array _ _ _ image tt tt (λ none. unlawful (subst IsLawfulImage (sym same) (record {
-      tables = record {
-        size = image.lawful.cores.sets.sized;
-        cores = image.lawful.cores;
-        waits = image.lawful.waits;
-        phases = image.lawful.phases;
-      };
-      none_due = none;
-    }))))
+    let due : one_due 7 array ≡ true = due_inside array words image same unlawful (one_due 7 array) refl in
+    inl (image, is ∙ sym (ap (λ (b : Bool). code_unless (not b) NotNow) due))
 
 -- all words of an array are an image of eight core sets
 pub eight : (array : List ℕ) → length array ≡ 144 → AreWords array → IsLawfulImage array → IsImage 8 array

@@ -6,8 +6,8 @@ use Rattle.std.proofs.Math.Seq.{drop-nil}
 use Rattle.std.specs.Option.{option_to_list}
 use Rattle.agc_plan.specs.declared.request.Request.{Request}
 use Rattle.agc_plan.specs.Pulses.{action_request, requests_for}
-use Rattle.agc_image.specs.declared.requests.AgcRequest.{AgcRequest}
-use Rattle.agc_image.specs.Written.{action_from_c}
+use Rattle.libagc.specs.declared.reading.AgcRequest.{AgcRequest}
+use Rattle.libagc.specs.Written.{action_from_c}
 use Rattle.agc_machine.specs.declared.answer.Refusal.TheVariants.{Spent, LogFull}
 use Rattle.agc_machine.specs.Machines.{IsLawful, Machined, refusal_of, starts_over}
 use Rattle.libagc.specs.declared.asking.AgcBounds.{AgcBounds}
@@ -33,11 +33,6 @@ drop_on (suc c) (suc r) [] [] h e = refl
 drop_on (suc c) (suc r) [] (y ∷ ys) h e = sym (drop-nil r) ∙ drop_on c r [] ys (omega (arith, h)) (drop-nil c ∙ e)
 drop_on (suc c) (suc r) (x ∷ xs) [] h e = drop_on c r xs [] (omega (arith, h)) (e ∙ sym (drop-nil c)) ∙ drop-nil r
 drop_on (suc c) (suc r) (x ∷ xs) (y ∷ ys) h e = drop_on c r xs ys (omega (arith, h)) e
-
--- all of some actions are actions, so all but the first are
-pub others_too : (a b : Bool) → a && b ≡ true → b ≡ true
-others_too true b e = e
-others_too false b e = absurd (let no : false ≡ true = e in cc)
 
 -- what is set in the first place is there
 pub first_set : {A : Type 0} (xs : List A) (a : A) → length xs ≡ 4 → take 1 (slice_set xs 0 a) ≡ a ∷ []

@@ -8,9 +8,9 @@ use Rattle.agc_plan.specs.Plans.{planned_with}
 use Rattle.agc_plan.specs.Seats.{era_places}
 use Rattle.agc_plan.specs.Steps.{begun}
 use Rattle.agc_phase.specs.Image.{ArePairs, Becomes, base_of}
-use Rattle.agc_image.specs.declared.borrowed_plan.AgcPhaseEntry.{AgcPhaseEntry}
+use Rattle.libagc.specs.declared.plans.AgcPhaseEntry.{AgcPhaseEntry}
 use Rattle.agc_image.specs.Images.{IsSets, IsOpened, IsWritten, Changed, size_with, image_of, behind}
-use Rattle.agc_image.specs.Written.{plan_from_c}
+use Rattle.libagc.specs.Written.{plan_from_c}
 use Rattle.agc_image.proofs.Frames.{changed, sets_of_size}
 use Rattle.agc_phase.specs.Image.{power_base}
 use Rattle.agc_machine.specs.Stands.{BeginsEra, Stands}

@@ -1,46 +1,29 @@
--- What a call answers, from what it did and what it lacked.
-use Rattle.std.proofs.Common.{◌≡◌, ℕ, ◌≤◌, List, Option, Some, ap, subst, arith}
-use Rattle.agc_word.specs.Layout.{Keeps, OutsideCores, OutsideWaitlist, OutsidePhases}
-use Rattle.agc_plan.specs.declared.reply.Reply.{Reply}
-use Rattle.agc_exec.specs.Image as cores
+-- What calls on one table leave of the array.
+use Rattle.std.proofs.Common.{◌≡◌, ◌↔◌, ℕ, ◌≤◌, Bool, false, IsTrue, List, inl, inr, arith}
+use Rattle.agc_word.specs.Layout.{Keeps, OutsideWaitlist, OutsidePhases}
 use Rattle.agc_wait.specs.Table as table
 use Rattle.agc_phase.specs.Image as phases
-use Rattle.agc_image.specs.declared.fault.Fault.{Fault}
-use Rattle.agc_image.specs.declared.fault.Fault.TheVariants as fault
-use Rattle.agc_image.specs.Codes.{code_of, code_for, Coded}
-use Rattle.agc_image.specs.Images.{IsImage, IsOpened, IsWritten, Changed}
-use Rattle.agc_image.proofs.Codes.{coded_served, coded_also}
-use Rattle.agc_image.proofs.Frames.{changed, lawful_by_cores, lawful_by_waits, lawful_by_phases}
-use Rattle.libagc.specs.Replies.{reply_to_c, Serves}
-use Rattle.libagc.specs.declared.reply.AgcReply.{AgcReply}
+use Rattle.agc_image.specs.Images.{IsSets, IsImage, IsOpened, IsWritten, Changed}
+use Rattle.libagc.specs.Codes.{Coded, NoImage}
+use Rattle.agc_image.proofs.Frames.{changed, lawful_by_waits, lawful_by_phases}
 
--- an image's call was served
-pub all_there : (code sets : ℕ) (array : List ℕ) (R W T : Type 0) → code ≡ 0 → IsImage sets array → R → W → T → Coded code sets array R W T
-all_there code sets array R W T served image r w t = rw served (coded_served sets array R W T image r w t)
+-- a test answered no
+pub false_no : (P : Type 0) (answer : Bool) → IsTrue answer ↔ P → answer ≡ false → ¬ P
+false_no P answer iff off p = let on : IsTrue answer = iff.1 p in grind (arith, on, off)
 
-pub one_or_more : (found : Fault) → 1 ≤ code_of found
-one_or_more fault.NoSuchSets = omega arith
-one_or_more fault.NotWords = omega arith
-one_or_more fault.Unlawful = omega arith
-one_or_more fault.OutOfRange = omega arith
-one_or_more fault.NotAWord = omega arith
-one_or_more fault.NotNow = omega arith
-one_or_more fault.Untidy = omega arith
-one_or_more fault.PlanRange = omega arith
-one_or_more fault.TaskTwice = omega arith
-one_or_more fault.PhaseTwice = omega arith
-one_or_more fault.TooManyAreas = omega arith
-one_or_more fault.NotSpelled = omega arith
-one_or_more fault.NoRoom = omega arith
-one_or_more fault.TimeRange = omega arith
-one_or_more fault.StealTwice = omega arith
-one_or_more fault.CostTwice = omega arith
+-- a call that had a number of core sets lacked something else
+sets_most : (sets : ℕ) → IsSets sets → sets ≤ 8
+sets_most sets valid = elim valid [ inl seven ↦ omega arith | inr eight ↦ omega arith ]
 
--- there is no image
-pub no_image : (found : Option Fault) (this : Fault) (code sets : ℕ) (array : List ℕ) (R W T : Type 0) → found ≡ Some this → code ≡ code_of this → Coded (code_for found) sets array (Unit {0}) (Unit {0}) (Unit {0}) → Coded code sets array R W T
-no_image found this code sets array R W T is reply_to_c coded =
-    let which : code_for found ≡ code_of this = ap code_for is in
-    rw reply_to_c (coded_also (code_of this) sets array R W T (one_or_more this) (subst (λ (n : ℕ). Coded n sets array (Unit {0}) (Unit {0}) (Unit {0})) which coded))
+pub few_sets : (code sets : ℕ) (array : List ℕ) → Coded code sets array 0 → 2 ≤ code → sets ≤ 8
+unfolding NoImage
+few_sets code sets array coded some = elim coded [
+  | inl image ↦ sets_most sets image.0.count
+  | inr none ↦ elim none [
+    | inl lacking ↦ absurd (omega (arith, some, lacking.1))
+    | inr other ↦ elim other [ inl words ↦ sets_most sets words.0 | inr unlawful ↦ sets_most sets unlawful.0 ]
+  ]
+]
 
 -- a call on the Waitlist, or on phases, changed the array
 pub changed_waits : (does : List ℕ → List ℕ → Type 0) (sets : ℕ) (old new words then : List ℕ) → IsImage sets old → IsOpened sets old words → does words then → Keeps OutsideWaitlist words then → table.IsLawfulTable then → IsWritten then old new → Changed does sets old new

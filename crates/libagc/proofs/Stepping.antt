@@ -3,8 +3,8 @@ use Rattle.std.proofs.Common.{◌≡◌, ℕ, ◌≤◌, List, Some, None, lengt
 use Rattle.std.proofs.lemmas.Option.{slice_get_cases}
 use Rattle.agc_plan.specs.declared.reply.Reply.{Reply}
 use Rattle.agc_plan.specs.declared.request.Request.{Request}
-use Rattle.agc_image.specs.declared.borrowed_plan.AgcPhaseEntry.{AgcPhaseEntry}
-use Rattle.agc_image.specs.declared.borrowed_plan.AgcRow.{AgcRow}
+use Rattle.libagc.specs.declared.plans.AgcPhaseEntry.{AgcPhaseEntry}
+use Rattle.libagc.specs.declared.plans.AgcRow.{AgcRow}
 use Rattle.agc_plan.specs.Plans.{Planned}
 use Rattle.agc_plan.specs.Steps.{begins}
 use Rattle.agc_wait.specs.Table.{waits_of}

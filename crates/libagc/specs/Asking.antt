@@ -1,38 +1,34 @@
 -- The requests of a pulse, and which requests are refused, in a caller's numbers.
-use Rattle.std.specs.Prelude.{◌≡◌, ℕ, ◌==◌, nat_lt, nat_le, ◌&&◌, not, Bool, true}
-use Rattle.std.specs.Prelude.{if◌then◌else◌, List, [], ◌∷◌, length, map, Option, Some, None}
+use Rattle.std.specs.Prelude.{◌≡◌, ℕ, ◌==◌, nat_lt, nat_le, ◌&&◌, not, Bool}
+use Rattle.std.specs.Prelude.{if◌then◌else◌, List, [], length, map, Option, Some, None}
+use Rattle.std.specs.List.{list_all}
 use Rattle.agc_plan.specs.declared.line.Line.{Line}
 use Rattle.agc_plan.specs.declared.line.Line.TheVariants.{Timer, Key, Radar}
 use Rattle.agc_plan.specs.declared.request.Request.{Request}
 use Rattle.agc_plan.specs.Plans.{planned_with}
 use Rattle.agc_plan.specs.Pulses.{pulse_requests}
-use Rattle.agc_image.specs.declared.requests.AgcRequest.{AgcRequest}
-use Rattle.agc_image.specs.declared.fault.Fault.{Fault}
-use Rattle.agc_image.specs.declared.fault.Fault.TheVariants.{OutOfRange, PlanRange}
-use Rattle.agc_image.specs.Requests.{request_from_c, request_fault}
-use Rattle.agc_image.specs.Codes.{code_of}
-use Rattle.agc_image.specs.Lacking.{is_action}
-use Rattle.agc_image.specs.Written.{action_from_c}
+use Rattle.libagc.specs.declared.reading.AgcRequest.{AgcRequest}
+use Rattle.libagc.specs.declared.fault.Fault.{Fault}
+use Rattle.libagc.specs.declared.fault.Fault.TheVariants.{OutOfRange, PlanRange}
+use Rattle.libagc.specs.FromC.{request_from_c, request_fault}
+use Rattle.libagc.specs.Codes.{code_of}
+use Rattle.libagc.specs.Lacking.{is_action}
+use Rattle.libagc.specs.Written.{action_from_c}
 use Rattle.agc_machine.specs.declared.answer.Refusal.{Refusal}
 use Rattle.agc_machine.specs.declared.answer.Refusal.TheVariants.{Spent, LogFull}
 use Rattle.agc_machine.specs.Machines.{Machined, starts_over}
 use Rattle.libagc.specs.declared.asking.AgcBounds.{AgcBounds}
 use Rattle.libagc.specs.Spelled.{numbers_of}
 
-abbrev pub are_actions : List AgcRequest → Bool
-are_actions [] = true
-are_actions (a ∷ others) = is_action a && are_actions others
-
 -- the actions of a pulse: at most four
 abbrev pub are_few : List AgcRequest → Bool
-are_few actions = nat_le (length actions) 4 && are_actions actions
+are_few actions = nat_le (length actions) 4 && list_all is_action actions
 
 -- the first thing that is wrong: the line, 0 the timer's, 1 the keys', 2 the radar's, or actions
 abbrev pub pulse_lacks : ℕ → List AgcRequest → List AgcRequest → Option Fault
 pulse_lacks line key radar =
     if nat_lt 2 line then Some OutOfRange
-    else if not (are_few key) then Some PlanRange
-    else if not (are_few radar) then Some PlanRange
+    else if not (are_few key && are_few radar) then Some PlanRange
     else None
 
 abbrev pub line_from_c : ℕ → Line

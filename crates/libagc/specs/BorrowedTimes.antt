@@ -1,8 +1,8 @@
 -- The schedule in a caller's timetable.
-use Rattle.std.specs.Prelude.{ℕ, ◌==◌, nat_lt, ◌&&◌, not, if◌then◌else◌, List, map, take, drop}
-use Rattle.std.specs.Prelude.{Option, Some, None, slice_get}
+use Rattle.std.specs.Prelude.{ℕ, ◌==◌, ◌&&◌, not, if◌then◌else◌, List, map, take, drop}
+use Rattle.std.specs.Prelude.{Option, Some, None, slice_get, unwrap_or}
 use Rattle.std.specs.List.{range_with_len}
-use Rattle.std.specs.Option.{option_and_then, option_map_or}
+use Rattle.std.specs.Option.{option_and_then}
 use Rattle.agc_plan.specs.declared.request.Request.{Request}
 use Rattle.agc_plan.specs.declared.request.Request.TheVariants.{Change}
 use Rattle.agc_clock.specs.Alarms.{times_after}
@@ -14,14 +14,14 @@ use Rattle.agc_clock.specs.declared.timetable.Then.{Then}
 use Rattle.agc_clock.specs.declared.timetable.Then.TheVariants as then
 use Rattle.agc_clock.specs.Events.{Event}
 use Rattle.agc_clock.specs.Timetables.{Schedule, step_of}
-use Rattle.agc_image.specs.declared.requests.AgcRequest.{AgcRequest}
-use Rattle.agc_image.specs.Requests.{request_from_c}
+use Rattle.libagc.specs.declared.reading.AgcRequest.{AgcRequest}
+use Rattle.libagc.specs.FromC.{address_from_c, request_from_c}
 use Rattle.libagc.specs.declared.timetable.AgcCost.{AgcCost}
 use Rattle.libagc.specs.declared.timetable.AgcEvent.{AgcEvent}
 
 -- an address; what is out of its range counts as the last
 abbrev pub address_for : ℕ → ℕ
-address_for n = if nat_lt 0 n && nat_lt n 16384 then n else 16383
+address_for n = unwrap_or (address_from_c n) 16383
 
 -- 0 is the end of the job, any other a sleep at that address
 abbrev pub then_from_c : ℕ → Then
@@ -51,7 +51,7 @@ event_after alarm time row =
 
 -- a request; numbers that are none count as a change of job
 abbrev pub request_for : AgcRequest → Request
-request_for r = option_map_or (λ q. q) (request_from_c r) Change
+request_for r = unwrap_or (request_from_c r) Change
 
 -- `count` of the requests, from the first on
 abbrev pub requests_from : List AgcRequest → (first count : ℕ) → List AgcRequest

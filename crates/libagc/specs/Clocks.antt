@@ -8,7 +8,7 @@ use Rattle.agc_clock.specs.declared.asked.Source.TheVariants as source
 use Rattle.agc_clock.specs.Clocks.{AsksNext, Clocked}
 use Rattle.agc_clock.specs.Counts.{kept}
 use Rattle.agc_clock.specs.Timetables.{Schedule}
-use Rattle.agc_image.specs.declared.requests.AgcRequest.{AgcRequest}
+use Rattle.libagc.specs.declared.reading.AgcRequest.{AgcRequest}
 use Rattle.libagc.specs.declared.steps.AgcStep.{AgcStep}
 use Rattle.libagc.specs.Spelled.{numbers_of}
 
@@ -46,11 +46,4 @@ alarm_to_c step = if (step.reply == 10) || (step.reply == 13) then step.number e
 
 -- a clock after a step that left a machine with these jobs
 abbrev pub clock_after : AgcStep → Jobs → Clocked → Clocked
-clock_after step jobs clock = record {
-  time = clock.time;
-  event = clock.event;
-  asked = clock.asked;
-  looks = clock.looks;
-  left = clock.left;
-  counts = kept (begins_era step) jobs clock.counts;
-}
+clock_after step jobs clock = record clock { counts = kept (begins_era step) jobs clock.counts }

@@ -1,16 +1,16 @@
 -- The beginning of an era by a caller's entries, and power coming back.
-use Rattle.std.specs.Prelude.{◌≡◌, ◌↔◌, IsTrue, ℕ, ◌==◌, Bool, if◌then◌else◌, List, []}
+use Rattle.std.specs.Prelude.{◌≡◌, ◌↔◌, IsTrue, ℕ, ◌==◌, ◌||◌, Bool, if◌then◌else◌, List, []}
 use Rattle.std.specs.Prelude.{length}
 use Rattle.std.specs.Option.{is_some, option_map_or}
 use Rattle.agc_plan.specs.Base.{Base, with_code}
 use Rattle.agc_plan.specs.Seats.{era_places}
 use Rattle.agc_plan.specs.Steps.{begun}
 use Rattle.agc_phase.specs.Image.{ArePairs, base_of, code_of_word}
-use Rattle.agc_image.specs.declared.borrowed_plan.AgcPhaseEntry.{AgcPhaseEntry}
+use Rattle.libagc.specs.declared.plans.AgcPhaseEntry.{AgcPhaseEntry}
 use Rattle.agc_image.specs.Images.{AreWords, IsImage, IsSets, image_of, behind}
 use Rattle.agc_phase.specs.Image.{power_base}
 use Rattle.agc_machine.specs.Stands.{IsReady, Stands}
-use Rattle.libagc.specs.Stepping.{first_of, plan_for, ImageThen}
+use Rattle.libagc.specs.Stepping.{plan_for}
 
 -- the phases and codes after this alarm was recorded; 0 is none
 abbrev pub base_after : ℕ → Base → Base
@@ -31,11 +31,7 @@ pub record Begins (entries : List AgcPhaseEntry) (alarm : ℕ) (old new : List �
 
 -- the code of a number that is to be an alarm, or 0 if there is none
 abbrev pub alarm_lack : ℕ → ℕ
-alarm_lack alarm = if alarm == 0 then 0 else (if is_some (code_of_word alarm) then 0 else 4)
-
--- the code of a beginning: the first that isn't 0 of its image's, its alarm's and its plan's
-abbrev pub BeginCoded : ℕ → ℕ → List ℕ → ℕ → ℕ → Type 0
-BeginCoded code sets array alarm plan = ImageThen code sets array (first_of (alarm_lack alarm) plan)
+alarm_lack alarm = if alarm == 0 || is_some (code_of_word alarm) then 0 else 4
 
 -- 01107 where phase words don't agree
 abbrev pub power_number : Bool → ℕ

@@ -14,3 +14,7 @@ pub mod Tables
 pub mod Scenes
 pub mod Explaining
 pub mod Asking
+pub mod Codes
+pub mod FromC
+pub mod Written
+pub mod Lacking

@@ -29,9 +29,10 @@ reply_to_c (reply.Runs number) = reply_with 7 number
 reply_to_c reply.Stored = reply_with 8 0
 reply_to_c reply.Listed = reply_with 9 0
 reply_to_c (reply.Alarmed alarm) = reply_with 10 (alarm_code alarm)
-reply_to_c reply.Phased = reply_with 0 0
-reply_to_c (reply.Ticked alarm) = reply_with 0 0
-reply_to_c reply.Restarted = reply_with 0 0
+reply_to_c reply.Phased = reply_with 11 0
+reply_to_c (reply.Ticked None) = reply_with 12 0
+reply_to_c (reply.Ticked (Some alarm)) = reply_with 13 (alarm_code alarm)
+reply_to_c reply.Restarted = reply_with 14 0
 
 -- a task was listed, or there was no room
 abbrev pub listing : Bool → Reply

@@ -6,11 +6,12 @@ use Rattle.agc_plan.specs.declared.request.Request.{Request}
 use Rattle.agc_plan.specs.declared.request.Request.TheVariants as request
 use Rattle.agc_exec.specs.Calls.{DoesNovac, DoesFindvac, DoesEnd, DoesSleep, DoesWake}
 use Rattle.agc_exec.specs.Calls.{DoesPrio, DoesChange, DoesStore}
-use Rattle.agc_image.specs.declared.requests.AgcRequest.{AgcRequest}
-use Rattle.agc_image.specs.Requests.{request_from_c}
+use Rattle.libagc.specs.declared.reading.AgcRequest.{AgcRequest}
+use Rattle.libagc.specs.FromC.{request_from_c}
 use Rattle.libagc.specs.declared.reply.AgcReply.{AgcReply}
 use Rattle.libagc.specs.Replies.{Refuses, Serves}
-use Rattle.libagc.specs.Stepping.{ImageThen, request_code}
+use Rattle.libagc.specs.Codes.{Coded}
+use Rattle.libagc.specs.Stepping.{request_code}
 use Rattle.libagc.specs.Tasks.{DoesList}
 
 -- the Executive serves it, or the Waitlist. No call asks for one of the others
@@ -40,6 +41,6 @@ pub record IsServed (asked : AgcRequest) (sets : ℕ) (old new : List ℕ) (resu
 -- 0 the request was served, and else nothing changes
 pub record Answers (asked : AgcRequest) (sets : ℕ) (old new : List ℕ) (result : AgcReply)
     : Type 0 where
-  pub code : ImageThen result.code sets old (request_code asked)
+  pub code : Coded result.code sets old (request_code asked)
   pub served : result.code ≡ 0 → IsServed asked sets old new result
   pub refused : ¬ (result.code ≡ 0) → Refuses old new result

@@ -1,9 +1,9 @@
 -- All that the tables hold, in numbers.
-use Rattle.std.specs.Prelude.{ℕ, nat_lt, ◌==◌, if◌then◌else◌, List, [], ◌∷◌, Option, Some, None}
-use Rattle.std.specs.Prelude.{slice_get}
+use Rattle.std.specs.Prelude.{ℕ, nat_lt, ◌==◌, if◌then◌else◌, List, [], ◌∷◌, map, slice_get}
+use Rattle.std.specs.List.{range_with_len}
+use Rattle.std.specs.Option.{option_flatten}
 use Rattle.agc_exec.specs.Image.{jobs_in, runner_in}
 use Rattle.agc_exec.specs.Seats.{named_of, seats_in}
-use Rattle.agc_exec.specs.declared.seats.Seat.{Seat}
 use Rattle.agc_phase.specs.Image.{base_of, failreg_words}
 use Rattle.agc_wait.specs.Table.{waits_of}
 use Rattle.agc_image.specs.Images.{image_of}
@@ -13,22 +13,15 @@ use Rattle.libagc.specs.declared.scene.AgcScene.{AgcScene}
 use Rattle.libagc.specs.declared.tables.AgcJob.{AgcJob}
 use Rattle.libagc.specs.declared.tables.AgcWaiting.{AgcWaiting}
 
--- the job of a set that may not be there
-abbrev pub seat_of : Option (Option Seat) → Option Seat
-seat_of None = None
-seat_of (Some seat) = seat
-
 -- the job in a core set; no job beyond the last set
 abbrev pub set_to_c : ℕ → List ℕ → ℕ → AgcJob
 set_to_c sets words set =
     if nat_lt set sets
-    then job_to_c set words (seat_of (slice_get (seats_in (image_of sets words)) set)) else no_job 0
+    then job_to_c set words (option_flatten (slice_get (seats_in (image_of sets words)) set))
+    else no_job 0
 
 abbrev pub sets_to_c : ℕ → List ℕ → List AgcJob
-sets_to_c sets words =
-    set_to_c sets words 0 ∷ set_to_c sets words 1 ∷ set_to_c sets words 2
-    ∷ set_to_c sets words 3 ∷ set_to_c sets words 4 ∷ set_to_c sets words 5
-    ∷ set_to_c sets words 6 ∷ set_to_c sets words 7 ∷ []
+sets_to_c sets words = map (set_to_c sets words) (range_with_len 0 8)
 
 -- the number of the job that owns an area, 0 for none
 unfoldable pub owner_in : List AgcJob → ℕ → ℕ
@@ -36,17 +29,14 @@ owner_in [] area = 0
 owner_in (job ∷ jobs) area = if job.area == area then job.number else owner_in jobs area
 
 abbrev pub owners_in : List AgcJob → List ℕ
-owners_in jobs =
-    owner_in jobs 1 ∷ owner_in jobs 2 ∷ owner_in jobs 3 ∷ owner_in jobs 4 ∷ owner_in jobs 5 ∷ []
+owners_in jobs = map (owner_in jobs) (range_with_len 1 5)
 
 -- the task that comes due as number `place` of those that wait, or none
 abbrev pub task_in : List ℕ → ℕ → AgcWaiting
 task_in image place = task_to_c (slice_get (waits_of image) place)
 
 abbrev pub tasks_to_c : List ℕ → List AgcWaiting
-tasks_to_c image =
-    task_in image 0 ∷ task_in image 1 ∷ task_in image 2 ∷ task_in image 3 ∷ task_in image 4
-    ∷ task_in image 5 ∷ task_in image 6 ∷ task_in image 7 ∷ task_in image 8 ∷ []
+tasks_to_c image = map (task_in image) (range_with_len 0 9)
 
 -- all of it: who runs, whom NEWJOB names, sets, areas, tasks, phases and codes
 abbrev pub scene_to_c : ℕ → List ℕ → AgcScene

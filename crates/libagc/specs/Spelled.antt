@@ -1,11 +1,12 @@
 -- How a caller's numbers are read from lines.
 use Rattle.std.specs.Prelude.{◌≡◌, ℕ, List}
+use Rattle.std.specs.Option.{option_map_or}
 use Rattle.agc_plan.specs.declared.request.Request.{Request}
 use Rattle.agc_plan.specs.declared.request.Request.TheVariants as request
 use Rattle.agc_plan.specs.declared.request.Action.{Action}
-use Rattle.agc_plan.specs.declared.request.Action.TheVariants as action
+use Rattle.agc_plan.specs.Pulses.{action_request}
 use Rattle.agc_plan.specs.Ranges.{IsRequest, IsAction}
-use Rattle.agc_image.specs.declared.requests.AgcRequest.{AgcRequest}
+use Rattle.libagc.specs.declared.reading.AgcRequest.{AgcRequest}
 use Rattle.agc_text.specs.Lines.{line_of, action_line_of}
 
 -- a kind and its numbers
@@ -31,11 +32,7 @@ numbers_of request.Fresh = request_with 13 0 0 0
 
 -- the numbers of an action: of kind 0, or those of the request that asks for the same
 abbrev pub action_numbers : Action → AgcRequest
-action_numbers action.Nothing = request_with 0 0 0 0
-action_numbers (action.Novac priority entry) = numbers_of (request.Novac priority entry)
-action_numbers (action.Findvac priority entry) = numbers_of (request.Findvac priority entry)
-action_numbers (action.Rouse at) = numbers_of (request.Rouse at)
-action_numbers (action.List delay task) = numbers_of (request.List delay task)
+action_numbers action = option_map_or numbers_of (action_request action) (request_with 0 0 0 0)
 
 -- the text is the line of a request, and these are its numbers
 pub record ReadsRequest (text : List ℕ) (numbers : AgcRequest) : Type 0 where

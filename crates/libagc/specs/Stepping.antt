@@ -1,56 +1,35 @@
 -- The effect of a whole step on a caller's words, and its reply.
-use Rattle.std.specs.Prelude.{◌≡◌, ◌↔◌, ℕ, ◌==◌, nat_lt, true, false, if◌then◌else◌, List}
+use Rattle.std.specs.Prelude.{◌≡◌, ◌⊎◌, ℕ, ◌==◌, nat_lt, true, false, if◌then◌else◌, List}
 use Rattle.std.specs.Prelude.{Some, None, length, slice_get}
-use Rattle.std.specs.Option.{is_some}
 use Rattle.agc_plan.specs.declared.reply.Reply.{Reply}
-use Rattle.agc_plan.specs.declared.reply.Reply.TheVariants as reply
 use Rattle.agc_plan.specs.declared.request.Request.{Request}
 use Rattle.agc_plan.specs.declared.request.Task.{Task}
 use Rattle.agc_plan.specs.Plans.{Planned, planned_with}
 use Rattle.agc_word.specs.Layout.{sets_in}
 use Rattle.agc_wait.specs.Table.{waits_of}
 use Rattle.agc_wait.specs.Waits.{is_due}
-use Rattle.agc_image.specs.declared.requests.AgcRequest.{AgcRequest}
-use Rattle.agc_image.specs.declared.borrowed_plan.AgcPhaseEntry.{AgcPhaseEntry}
-use Rattle.agc_image.specs.declared.borrowed_plan.AgcRow.{AgcRow}
-use Rattle.agc_image.specs.Requests.{request_from_c, request_fault}
-use Rattle.agc_image.specs.Codes.{Coded, code_of, code_for}
+use Rattle.libagc.specs.declared.reading.AgcRequest.{AgcRequest}
+use Rattle.libagc.specs.declared.plans.AgcPhaseEntry.{AgcPhaseEntry}
+use Rattle.libagc.specs.declared.plans.AgcRow.{AgcRow}
+use Rattle.libagc.specs.FromC.{is_request, request_from_c, request_fault}
+use Rattle.libagc.specs.Codes.{NoImage, code_of}
 use Rattle.agc_image.specs.Images.{Changed, IsImage, image_of}
-use Rattle.agc_image.specs.Lacking.{lacking}
-use Rattle.agc_image.specs.Written.{plan_from_c}
+use Rattle.libagc.specs.Written.{plan_from_c}
 use Rattle.agc_machine.specs.Stands.{Acts, StepsTo, FiresIn, RaisesIn, IsReady}
 use Rattle.libagc.specs.declared.steps.AgcFired.{AgcFired}
 use Rattle.libagc.specs.declared.steps.AgcStep.{AgcStep}
-use Rattle.libagc.specs.Replies.{alarm_code}
+use Rattle.libagc.specs.Replies.{reply_to_c}
 
--- a reply of this kind, with this number, with this many tasks that fired, the last of which raised
--- an alarm by the action of this number
-abbrev pub step_with : ℕ → ℕ → ℕ → ℕ → AgcStep
-step_with kind number fired action = record {
+-- a reply, with this many tasks that fired, the last of which raised an alarm by the action of this
+-- number
+abbrev pub step_to_c : Reply → ℕ → ℕ → AgcStep
+step_to_c reply fired action = record {
   code = 0;
-  reply = kind;
-  number = number;
-  fired =
-      fired;
+  reply = (reply_to_c reply).reply;
+  number = (reply_to_c reply).number;
+  fired = fired;
   action = action;
 }
-
--- a reply's kind, and the job or the alarm that it names
-abbrev pub step_to_c : Reply → ℕ → ℕ → AgcStep
-step_to_c (reply.Established number) fired action = step_with 1 number fired action
-step_to_c (reply.Left (Some number)) fired action = step_with 2 number fired action
-step_to_c (reply.Left None) fired action = step_with 3 0 fired action
-step_to_c (reply.Roused number) fired action = step_with 4 number fired action
-step_to_c reply.NoSleeper fired action = step_with 5 0 fired action
-step_to_c reply.NoJob fired action = step_with 6 0 fired action
-step_to_c (reply.Runs number) fired action = step_with 7 number fired action
-step_to_c reply.Stored fired action = step_with 8 0 fired action
-step_to_c reply.Listed fired action = step_with 9 0 fired action
-step_to_c (reply.Alarmed alarm) fired action = step_with 10 (alarm_code alarm) fired action
-step_to_c reply.Phased fired action = step_with 11 0 fired action
-step_to_c (reply.Ticked None) fired action = step_with 12 0 fired action
-step_to_c (reply.Ticked (Some alarm)) fired action = step_with 13 (alarm_code alarm) fired action
-step_to_c reply.Restarted fired action = step_with 14 0 fired action
 
 -- the number of an action: a row has four, and one that fits no number of C would be told as 0
 abbrev pub action_to_c : ℕ → ℕ
@@ -81,7 +60,7 @@ pub record Steps (rows : List AgcRow) (entries : List AgcPhaseEntry) (asked : Re
   pub reply : Reply
   pub fired : List Task
   pub action : ℕ
-  pub reply_to_c : result ≡ step_to_c reply (length fired) (action_to_c action)
+  pub told : result ≡ step_to_c reply (length fired) (action_to_c action)
   pub handed_out : AreHandedOut fired before after
   pub fires : FiresIn (plan_for rows entries (image_of sets old)) asked (image_of sets old) fired
   pub raises : RaisesIn (plan_for rows entries (image_of sets old)) asked (image_of sets old) action
@@ -105,39 +84,24 @@ pub record Refuses (old new moment : List ℕ) (before after : List AgcFired) (r
   pub words : new ≡ old
   pub fired : after ≡ before
   pub moment_is : moment ≡ old
-  pub reply_to_c : result ≡ step_refusal result.code
-
--- the first of two codes that isn't 0
-abbrev pub first_of : ℕ → ℕ → ℕ
-first_of a b = if a == 0 then b else a
+  pub told : result ≡ step_refusal result.code
 
 -- the code of numbers that are to be a request
 abbrev pub request_code : AgcRequest → ℕ
-request_code asked = if is_some (request_from_c asked) then 0 else code_of (request_fault asked)
+request_code asked = if is_request asked then 0 else code_of (request_fault asked)
 
--- the code of lawful words that are to be between requests: a task is due, or else they are such as
--- no step leaves
-pub record Timed (code : ℕ) (words : List ℕ) : Type 0 where
-  pub ready : (code ≡ 0) ↔ IsReady words
-  pub due : (code ≡ 6) ↔ (is_due (waits_of words) ≡ true)
-  pub untidy : (code ≡ 8) ↔ ((is_due (waits_of words) ≡ false) × ¬ IsReady words)
-
--- the code of lawful words and of a plan, the first that isn't 0
-pub record Lacks (code : ℕ) (words : List ℕ) (rows : List AgcRow) (entries : List AgcPhaseEntry)
-    : Type 0 where
-  pub time : ℕ
-  pub timed : Timed time words
-  pub first : code ≡ first_of time (code_for (lacking rows entries))
-
--- the code of a call that wants an image, and then what has this code: the first that isn't 0
-pub record ImageThen (code sets : ℕ) (array : List ℕ) (other : ℕ) : Type 0 where
-  pub image : ℕ
-  pub image_is : Coded image sets array (Unit {0}) (Unit {0}) (Unit {0})
-  pub first : code ≡ first_of image other
+-- the code of lawful words that are to be between requests, and then of a plan: a task is due, or
+-- else they are such as no step leaves
+abbrev pub Lacks : ℕ → List ℕ → ℕ → Type 0
+Lacks code words plan =
+    ((is_due (waits_of words) ≡ true) × (code ≡ 6))
+    ⊎ (((is_due (waits_of words) ≡ false) × ¬ IsReady words × (code ≡ 8))
+    ⊎ (IsReady words × (code ≡ plan)))
 
 -- the code of a step: the first that isn't 0 of its image's, its request's, its time's and its
 -- plan's
-pub record StepCoded (code sets : ℕ) (array : List ℕ) (asked : AgcRequest) (plan : ℕ) : Type 0 where
-  pub time : ℕ
-  pub timed : IsImage sets array → request_code asked ≡ 0 → Timed time (image_of sets array)
-  pub first : ImageThen code sets array (first_of (request_code asked) (first_of time plan))
+abbrev pub StepCoded : ℕ → ℕ → List ℕ → AgcRequest → ℕ → Type 0
+StepCoded code sets array asked plan =
+    NoImage code sets array
+    ⊎ ((IsImage sets array × (is_request asked ≡ false) × (code ≡ code_of (request_fault asked)))
+    ⊎ (IsImage sets array × (is_request asked ≡ true) × Lacks code (image_of sets array) plan))

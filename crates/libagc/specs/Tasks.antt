@@ -1,5 +1,5 @@
 -- The calls on the Waitlist.
-use Rattle.std.specs.Prelude.{◌≡◌, ℕ, Bool, true, false, List}
+use Rattle.std.specs.Prelude.{◌≡◌, ℕ, Bool, List}
 use Rattle.agc_plan.specs.declared.reply.Reply.{Reply}
 use Rattle.agc_plan.specs.declared.request.Task.{Task}
 use Rattle.agc_wait.specs.Calls.{Lists}
@@ -13,10 +13,6 @@ abbrev pub DoesList : ℕ → Task → List ℕ → List ℕ → Reply → Type 
 DoesList delay task old new reply =
     (accepted : Bool) × (Lists delay task old accepted new × (reply ≡ listing accepted))
 
--- no task is due now
-abbrev pub NoneDue : ℕ → List ℕ → Type 0
-NoneDue sets array = is_due (waits_of (image_of sets array)) ≡ false
-
 -- a task is due now
-abbrev pub OneDue : ℕ → List ℕ → Type 0
-OneDue sets array = is_due (waits_of (image_of sets array)) ≡ true
+abbrev pub one_due : ℕ → List ℕ → Bool
+one_due sets array = is_due (waits_of (image_of sets array))

@@ -1,35 +1,35 @@
 // The requests of a device's pulse, and which requests are refused.
 ghost use Rattle.std.specs.Prelude.{◌≡◌, ◌≤◌, ◌<◌, ◌+◌, ◌++◌, true, Some, map, drop, take};
+ghost use Rattle.std.specs.List.{list_all};
 ghost use Rattle.std.specs.Option.{option_to_list};
 ghost use Rattle.agc_plan.specs.declared.request.Request.{Request};
 ghost use Rattle.agc_plan.specs.Pulses.{action_request, requests_for};
-ghost use Rattle.agc_image.specs.Requests.{request_from_c};
-ghost use Rattle.agc_image.specs.Codes.{code_for};
-ghost use Rattle.agc_image.specs.Lacking.{is_action};
-ghost use Rattle.agc_image.specs.Written.{action_from_c};
+ghost use Rattle.libagc.specs.FromC.{request_from_c};
+ghost use Rattle.libagc.specs.Codes.{code_for};
+ghost use Rattle.libagc.specs.Lacking.{is_action};
+ghost use Rattle.libagc.specs.Written.{action_from_c};
 ghost use Rattle.agc_machine.specs.Machines.{IsLawful, Machined, refusal_of};
-ghost use Rattle.libagc.specs.Asking.{Counts, are_actions, are_few, bounds_code, pulse_lacks};
+ghost use Rattle.libagc.specs.Asking.{Counts, are_few, bounds_code, pulse_lacks};
 ghost use Rattle.libagc.specs.Asking.{pulse_to_c, refusal_code, refused_code};
 ghost use Rattle.libagc.specs.Spelled.{numbers_of};
 
+use crate::fault::Fault;
+use crate::lacking::is_action;
 use crate::lines::numbers_of;
+use crate::plans::action_of;
+use crate::reading::{AgcRequest, request_fault, request_of};
 use crate::reply::AgcNumber;
-use agc_image::{AgcRequest, Fault, is_action, request_fault, request_of};
 use agc_machine::starts_over;
-use agc_plan::Request;
+use agc_plan::{Request, action_request};
 
-/// The counts of a machine and their bounds: how many requests were served, and how many are stored
-/// since the last era began. The caller keeps them.
+/// The counts of a machine, each with its bound: how many requests were served, and how many are
+/// stored since the last era began. The caller keeps them.
 #[repr(C)]
 #[derive(Clone, Copy)]
 pub struct AgcBounds {
-    /// All requests that were served.
     pub served: u64,
-    /// The most requests that are served.
     pub allowance: u64,
-    /// Requests served since the last era began.
     pub logged: u32,
-    /// The most requests that are stored in an era.
     pub limit: u32,
 }
 
@@ -64,14 +64,9 @@ pub extern "C" fn agc_refusal(request: &AgcRequest, bounds: &AgcBounds) -> u32
 }
 
 fn are_actions(actions: &[AgcRequest]) -> bool
-    ensures { result ≡ are_actions actions.now }
+    ensures { result ≡ list_all is_action actions.now }
 {
-    for action in actions {
-        if !is_action(action) {
-            return false;
-        }
-    }
-    true
+    actions.iter().all(|action| is_action(action))
 }
 
 /// Whether these are at most four actions.
@@ -87,38 +82,23 @@ fn pulse_lacks(line: u32, key: &[AgcRequest], radar: &[AgcRequest]) -> Option<Fa
 {
     if line > 2 {
         Some(Fault::OutOfRange)
-    } else if !are_few(key) {
-        Some(Fault::PlanRange)
-    } else if !are_few(radar) {
+    } else if !(are_few(key) && are_few(radar)) {
         Some(Fault::PlanRange)
     } else {
         None
-    }
-}
-
-/// The request of an action; none for the action `nothing`.
-fn request_of_action(action: &AgcRequest) -> Option<Request>
-    requires { is_action action.now ≡ true }
-    ensures { result ≡ action_request (action_from_c action.now) }
-{
-    if action.kind == 0 {
-        None
-    } else {
-        request_of(action)
     }
 }
 
 /// Writes the request of an action after the first `count` requests. Returns their number then.
 fn put_request(requests: &mut [AgcRequest; 4], count: usize, action: &AgcRequest) -> usize
-    requires room { count < 4 }
-    requires action { is_action action.now ≡ true }
+    requires { count < 4 }
     ensures list { take result requests.new ≡ take count requests.old
         ++ map numbers_of (option_to_list (action_request (action_from_c action.now))) }
     ensures rest { drop result requests.new ≡ drop result requests.old }
     ensures least { count ≤ result }
     ensures most { result ≤ count + 1 }
 {
-    match request_of_action(action) {
+    match action_request(action_of(action)) {
         None => count,
         Some(request) => {
             requests[count] = numbers_of(&request);
@@ -186,9 +166,6 @@ pub extern "C" fn agc_pulse(
 {
     match pulse_lacks(line, key, radar) {
         Some(fault) => AgcNumber::with_fault(fault),
-        None => AgcNumber {
-            code: 0,
-            number: put_pulse(requests, line, key, radar) as u32,
-        },
+        None => AgcNumber::of(put_pulse(requests, line, key, radar) as u32),
     }
 }

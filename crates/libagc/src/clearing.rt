@@ -1,9 +1,11 @@
 // A fresh start's image.
-ghost use Rattle.std.specs.Prelude.{◌≡◌, ◌↔◌};
+ghost use Rattle.std.specs.Prelude.{◌≡◌, ◌⊎◌};
 ghost use Rattle.agc_image.specs.Images.{IsSets};
 ghost use Rattle.libagc.specs.Beginnings.{IsFresh};
 
-use agc_image::{Fault, write_back};
+use crate::fault::Fault;
+use crate::numbers;
+use agc_image::write_back;
 use agc_word::Erasable;
 
 /// Writes the image of a fresh start, whatever stood there: no jobs, no tasks, all groups inactive,
@@ -11,12 +13,11 @@ use agc_word::Erasable;
 /// 0 or 1. Source: the listings' FRESH START AND RESTART section.
 #[unsafe(no_mangle)]
 pub extern "C" fn agc_clear(words: &mut [u16; 144], sets: u32) -> u32
-    ensures code { (result ≡ 0) ↔ IsSets sets }
-    ensures no_such_sets { (result ≡ 1) ↔ ¬ IsSets sets }
+    ensures code { (IsSets sets × (result ≡ 0)) ⊎ (¬ IsSets sets × (result ≡ 1)) }
     ensures served { result ≡ 0 → IsFresh sets words.old words.new }
     ensures with_fault { ¬ (result ≡ 0) → words.new ≡ words.old }
 {
-    match agc_image::sets(sets) {
+    match numbers::sets(sets) {
         None => Fault::NoSuchSets.code(),
         Some(count) => {
             let mut image = Erasable::new(count);

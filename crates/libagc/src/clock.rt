@@ -2,21 +2,22 @@
 ghost use Rattle.std.specs.Prelude.{◌≡◌, ℕ};
 ghost use Rattle.agc_clock.specs.Clocks.{Clocked};
 ghost use Rattle.agc_exec.specs.Image.{jobs_in};
-ghost use Rattle.agc_image.specs.Codes.{Coded, code_for};
+ghost use Rattle.libagc.specs.Codes.{Coded, code_for};
 ghost use Rattle.agc_image.specs.Images.{IsImage, IsLawful, image_of};
 ghost use Rattle.libagc.specs.Clocks.{ClockAsks, alarm_to_c, asker_to_c, source_to_c, begins_era};
 ghost use Rattle.libagc.specs.Clocks.{clock_after};
 ghost use Rattle.libagc.specs.LateTimes.{times_lack};
 ghost use Rattle.libagc.specs.BorrowedTimes.{event_after, timetable_from_c};
-ghost use Rattle.libagc.specs.Stepping.{ImageThen};
 
+use crate::fault::image_in;
 use crate::lines::numbers_of;
+use crate::reading::AgcRequest;
 use crate::reply::AgcNumber;
 use crate::steps::AgcStep;
 use crate::times::times_lack;
 use crate::timetable::{AgcEvent, AgcTimetable, event_after};
 use agc_clock::{Clock, Source};
-use agc_image::{AgcRequest, blank_image, image_fault, open};
+use agc_image::{blank_image, open};
 use agc_word::Erasable;
 
 /// The number of a request's source.
@@ -50,13 +51,10 @@ fn ask_clock(
 {
     let (asked, _elapsed) = clock.next(image, table);
     match asked {
-        None => AgcNumber { code: 0, number: 0 },
+        None => AgcNumber::of(0),
         Some(asked) => {
             *request = numbers_of(&asked.request);
-            AgcNumber {
-                code: 0,
-                number: source_of(asked.source),
-            }
+            AgcNumber::of(source_of(asked.source))
         }
     }
 }
@@ -73,7 +71,7 @@ pub extern "C" fn agc_clock_next(
     clock: &mut Clock,
     request: &mut AgcRequest,
 ) -> AgcNumber
-    ensures code { ImageThen result.code sets words.now
+    ensures code { Coded result.code sets words.now
         (code_for (times_lack table.now.stolen.now table.now.costs.now table.now.events.now
         table.now.requests.now)) }
     ensures served { result.code ≡ 0 → ClockAsks
@@ -84,18 +82,17 @@ pub extern "C" fn agc_clock_next(
     ensures with_fault { ¬ (result.code ≡ 0) → (clock.new ≡ clock.old)
         × ((request.new ≡ request.old) × (result.number ≡ 0)) }
 {
-    match image_fault(words, sets) {
-        Some(fault) => AgcNumber::with_fault(fault),
-        None => match times_lack(table.stolen, table.costs, table.events, table.requests) {
+    match image_in(words, sets) {
+        Err(fault) => AgcNumber::with_fault(fault),
+        Ok(image) => match times_lack(table.stolen, table.costs, table.events, table.requests) {
             Some(fault) => AgcNumber::with_fault(fault),
-            None => agc_clock_next_trusted(words, sets, table, clock, request),
+            None => ask_clock(table, &image, clock, request),
         },
     }
 }
 
-/// As `agc_clock_next`, for an array that is known to have an image. It doesn't look at the
-/// timetable: an address out of its range counts as 16383, numbers that are no request as a change
-/// of job, and of two rows for one time, or one address, the first counts.
+/// As `agc_clock_next`, for an array that is known to have an image; it doesn't look at the
+/// timetable.
 #[unsafe(no_mangle)]
 pub extern "C" fn agc_clock_next_trusted(
     words: &[u16; 144],
@@ -133,14 +130,17 @@ pub extern "C" fn agc_clock_served(
     step: &AgcStep,
     clock: &mut Clock,
 ) -> u32
-    ensures code { Coded result sets words.now (Unit {0}) (Unit {0}) (Unit {0}) }
+    ensures code { Coded result sets words.now 0 }
     ensures served { result ≡ 0
         → clock.new ≡ clock_after step.now (jobs_in (image_of sets words.now)) clock.old }
     ensures with_fault { ¬ (result ≡ 0) → clock.new ≡ clock.old }
 {
-    match image_fault(words, sets) {
-        Some(fault) => fault.code(),
-        None => agc_clock_served_trusted(words, sets, step, clock),
+    match image_in(words, sets) {
+        Err(fault) => fault.code(),
+        Ok(image) => {
+            clock.served(&image, began(step));
+            0
+        }
     }
 }
 

@@ -1,33 +1,32 @@
 // The beginning of an era, and power coming back.
 ghost use Rattle.std.specs.Prelude.{◌≡◌, ℕ, []};
-ghost use Rattle.agc_image.specs.Codes.{code_of, code_for};
+ghost use Rattle.libagc.specs.Codes.{Coded, code_for, first_of};
 ghost use Rattle.agc_image.specs.Images.{AreWords, Changed, IsImage, IsSets};
-ghost use Rattle.agc_image.specs.Lacking.{lacking};
+ghost use Rattle.libagc.specs.Lacking.{lacking};
 ghost use Rattle.agc_phase.specs.Image.{Becomes, IsLawfulTable, base_of};
 ghost use Rattle.agc_word.specs.Profiles.{count_of};
-ghost use Rattle.libagc.specs.Eras.{Begins, BeginCoded, PowersUp, PowerCoded, alarm_lack};
-ghost use Rattle.libagc.specs.Eras.{base_after};
+ghost use Rattle.libagc.specs.Eras.{Begins, PowersUp, PowerCoded, alarm_lack, base_after};
 ghost use Rattle.libagc.specs.Eras.{power_number};
 
+use crate::fault::{Fault, image_in};
+use crate::lacking::plan_lacks;
+use crate::numbers;
+use crate::numbers::alarm_code;
+use crate::plans::{AgcPhaseEntry, AgcPlan};
 use crate::reply::AgcNumber;
-use agc_image::{
-    AgcPhaseEntry, BorrowedPlan, Fault, alarm_code, blank_image, image_fault, open, plan_lacks,
-    twelve, write_back,
-};
+use agc_image::{blank_image, open, twelve, write_back};
 use agc_machine::begin;
 use agc_phase::{record_alarm, recover_into};
 use agc_word::{Erasable, Sets, Word};
 
-/// The fault of an alarm's number; None if it is 0 or an alarm to be recorded.
-fn alarm_fault(alarm: u32) -> Option<Fault>
-    ensures { code_for result ≡ alarm_lack alarm }
+/// The code of an alarm's number: 0 if it is 0 or an alarm to be recorded.
+fn alarm_lack(alarm: u32) -> u32
+    ensures { result ≡ alarm_lack alarm }
 {
-    if alarm == 0 {
-        return None;
-    }
-    match alarm_code(alarm) {
-        Some(_code) => None,
-        None => Some(Fault::OutOfRange),
+    if alarm == 0 || alarm_code(alarm).is_some() {
+        0
+    } else {
+        Fault::OutOfRange.code()
     }
 }
 
@@ -50,7 +49,7 @@ fn begin_era(words: &mut [u16; 144], sets: u32, alarm: u32, entries: &[AgcPhaseE
     let mut image = blank_image(sets);
     open(words, sets, &mut image);
     note(alarm, &mut image);
-    let plan = BorrowedPlan { rows: &[], entries };
+    let plan = AgcPlan { rows: &[], entries };
     begin(&plan, &mut image);
     write_back(&image, words);
 }
@@ -66,28 +65,31 @@ pub extern "C" fn agc_begin(
     alarm: u32,
     entries: &[AgcPhaseEntry],
 ) -> u32
-    ensures code { BeginCoded result sets words.old alarm (code_for (lacking [] entries.now)) }
+    ensures code { Coded result sets words.old
+        (first_of (alarm_lack alarm) (code_for (lacking [] entries.now))) }
     ensures served { result ≡ 0 → Changed (Begins entries.now alarm) sets words.old words.new }
     ensures with_fault { ¬ (result ≡ 0) → words.new ≡ words.old }
 {
-    match image_fault(words, sets) {
-        Some(fault) => fault.code(),
-        None => match alarm_fault(alarm) {
-            Some(fault) => fault.code(),
-            None => match plan_lacks(&[], entries) {
+    match image_in(words, sets) {
+        Err(fault) => fault.code(),
+        Ok(_image) => {
+            let lack = alarm_lack(alarm);
+            if lack != 0 {
+                return lack;
+            }
+            match plan_lacks(&[], entries) {
                 Some(fault) => fault.code(),
                 None => {
                     begin_era(words, sets, alarm, entries);
                     0
                 }
-            },
-        },
+            }
+        }
     }
 }
 
-/// As `agc_begin`, for an array that is known to have an image. Codes 0 and 4 alone: a number of an
-/// entry that is out of its range does nothing, and of two entries the first counts. Source: the
-/// listings' FRESH START AND RESTART section.
+/// As `agc_begin`, for an array that is known to have an image; it doesn't look at the entries.
+/// Codes 0 and 4 alone. Source: the listings' FRESH START AND RESTART section.
 #[unsafe(no_mangle)]
 pub extern "C" fn agc_begin_trusted(
     words: &mut [u16; 144],
@@ -100,13 +102,11 @@ pub extern "C" fn agc_begin_trusted(
     ensures served { result ≡ 0 → Changed (Begins entries.now alarm) sets words.old words.new }
     ensures with_fault { ¬ (result ≡ 0) → words.new ≡ words.old }
 {
-    match alarm_fault(alarm) {
-        Some(fault) => fault.code(),
-        None => {
-            begin_era(words, sets, alarm, entries);
-            0
-        }
+    let lack = alarm_lack(alarm);
+    if lack == 0 {
+        begin_era(words, sets, alarm, entries);
     }
+    lack
 }
 
 /// The number of code 01107, where phase words don't agree.
@@ -129,13 +129,10 @@ fn rise(
 {
     let mut image = Erasable::new(count);
     let recovered = recover_into(phase_words, &mut image);
-    let plan = BorrowedPlan { rows: &[], entries };
+    let plan = AgcPlan { rows: &[], entries };
     begin(&plan, &mut image);
     write_back(&image, words);
-    AgcNumber {
-        code: 0,
-        number: power_number(recovered),
-    }
+    AgcNumber::of(power_number(recovered))
 }
 
 /// Power comes back with these phase words, -PHASE1, PHASE1 to -PHASE6, PHASE6, whatever was in the
@@ -156,7 +153,7 @@ pub extern "C" fn agc_power_up(
         → PowersUp sets entries.now phase_words.now words.old words.new result.number }
     ensures with_fault { ¬ (result.code ≡ 0) → (words.new ≡ words.old) × (result.number ≡ 0) }
 {
-    match agc_image::sets(sets) {
+    match numbers::sets(sets) {
         None => AgcNumber::with_fault(Fault::NoSuchSets),
         Some(count) => match twelve(phase_words) {
             None => AgcNumber::with_fault(Fault::NotWords),
@@ -168,9 +165,8 @@ pub extern "C" fn agc_power_up(
     }
 }
 
-/// As `agc_power_up`, and doesn't look at the entries: a number of one that is out of its range
-/// does nothing, and of two entries the first counts. Source: the listings' FRESH START AND RESTART
-/// section.
+/// As `agc_power_up`, and doesn't look at the entries. Source: the listings' FRESH START AND
+/// RESTART section.
 #[unsafe(no_mangle)]
 pub extern "C" fn agc_power_up_trusted(
     words: &mut [u16; 144],
@@ -183,7 +179,7 @@ pub extern "C" fn agc_power_up_trusted(
         → PowersUp sets entries.now phase_words.now words.old words.new result.number }
     ensures with_fault { ¬ (result.code ≡ 0) → (words.new ≡ words.old) × (result.number ≡ 0) }
 {
-    match agc_image::sets(sets) {
+    match numbers::sets(sets) {
         None => AgcNumber::with_fault(Fault::NoSuchSets),
         Some(count) => match twelve(phase_words) {
             None => AgcNumber::with_fault(Fault::NotWords),

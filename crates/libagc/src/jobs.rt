@@ -1,17 +1,17 @@
 // The Executive's calls.
 ghost use Rattle.std.specs.Prelude.{◌≡◌};
 ghost use Rattle.agc_exec.specs.Image.{runner_in};
-ghost use Rattle.agc_image.specs.Codes.{Coded};
+ghost use Rattle.libagc.specs.Codes.{Coded};
 ghost use Rattle.agc_image.specs.Images.{image_of};
 ghost use Rattle.libagc.specs.Replies.{number_to_c};
 ghost use Rattle.libagc.specs.Requests.{Answers};
 ghost use Rattle.libagc.specs.Spelled.{request_with};
 
+use crate::fault::image_in;
 use crate::lines::request_with;
 use crate::reply::{AgcNumber, AgcReply};
 use crate::requests::ask;
 use agc_exec::running;
-use agc_image::{blank_image, image_fault, open};
 use agc_plan::JobNo;
 
 /// NOVAC: establishes a job of this priority, 1 to 31, which begins at this address, 1 to 16383,
@@ -118,20 +118,13 @@ pub(crate) fn number_of(job: Option<JobNo>) -> u32
 /// numbers: profile.
 #[unsafe(no_mangle)]
 pub extern "C" fn agc_running(words: &[u16; 144], sets: u32) -> AgcNumber
-    ensures code { Coded result.code sets words.now (Unit {0}) (Unit {0}) (Unit {0}) }
+    ensures code { Coded result.code sets words.now 0 }
     ensures served { result.code ≡ 0
         → result.number ≡ number_to_c (runner_in (image_of sets words.now)) }
     ensures with_fault { ¬ (result.code ≡ 0) → result.number ≡ 0 }
 {
-    match image_fault(words, sets) {
-        Some(fault) => AgcNumber::with_fault(fault),
-        None => {
-            let mut image = blank_image(sets);
-            open(words, sets, &mut image);
-            AgcNumber {
-                code: 0,
-                number: number_of(running(&image)),
-            }
-        }
+    match image_in(words, sets) {
+        Err(fault) => AgcNumber::with_fault(fault),
+        Ok(image) => AgcNumber::of(number_of(running(&image))),
     }
 }

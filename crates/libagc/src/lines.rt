@@ -8,8 +8,9 @@ ghost use Rattle.agc_text.specs.Lines.{line_of, action_line_of};
 ghost use Rattle.libagc.specs.Spelled.{request_with, numbers_of, action_numbers, ReadsRequest};
 ghost use Rattle.libagc.specs.Spelled.{ReadsAction};
 
-use agc_image::{AgcRequest, Fault};
-use agc_plan::{Action, Delay, Entry, Priority, Request, Task};
+use crate::fault::Fault;
+use crate::reading::AgcRequest;
+use agc_plan::{Action, Entry, Priority, Request, action_request};
 use agc_text::{parse_action, parse_line};
 
 /// A request of this kind, with these numbers.
@@ -36,18 +37,6 @@ fn starting(kind: u32, priority: Priority, entry: Entry) -> AgcRequest
     )
 }
 
-/// The numbers of a listing.
-fn listing(delay: Delay, task: Task) -> AgcRequest
-    ensures { result ≡ request_with 9 delay task.at task.bank }
-{
-    request_with(
-        9,
-        u32::from(delay.get()),
-        u32::from(task.at.get()),
-        u32::from(task.bank.bits()),
-    )
-}
-
 /// The numbers of a request.
 pub(crate) fn numbers_of(request: &Request) -> AgcRequest
     ensures { result ≡ numbers_of request.now }
@@ -66,7 +55,12 @@ pub(crate) fn numbers_of(request: &Request) -> AgcRequest
             u32::from(word.bits()),
             0,
         ),
-        Request::List(delay, task) => listing(delay, task),
+        Request::List(delay, task) => request_with(
+            9,
+            u32::from(delay.get()),
+            u32::from(task.at.get()),
+            u32::from(task.bank.bits()),
+        ),
         Request::Tick => request_with(10, 0, 0, 0),
         Request::SetPhase(group, phase) => {
             request_with(11, u32::from(group.get()), u32::from(phase.get()), 0)
@@ -80,12 +74,9 @@ pub(crate) fn numbers_of(request: &Request) -> AgcRequest
 fn action_numbers(action: &Action) -> AgcRequest
     ensures { result ≡ action_numbers action.now }
 {
-    match *action {
-        Action::Nothing => request_with(0, 0, 0, 0),
-        Action::Novac(priority, entry) => starting(1, priority, entry),
-        Action::Findvac(priority, entry) => starting(2, priority, entry),
-        Action::Rouse(at) => request_with(5, u32::from(at.get()), 0, 0),
-        Action::List(delay, task) => listing(delay, task),
+    match action_request(*action) {
+        None => request_with(0, 0, 0, 0),
+        Some(request) => numbers_of(&request),
     }
 }
 

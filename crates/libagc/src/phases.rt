@@ -1,13 +1,17 @@
 // The calls on phases and FAILREG.
-ghost use Rattle.std.specs.Prelude.{◌≡◌, ◌↔◌, ◌≤◌, ◌==◌, if◌then◌else◌, IsSome, replicate};
+ghost use Rattle.std.specs.Prelude.{◌≡◌, ◌⊎◌, ◌==◌, ◌&&◌, if◌then◌else◌, replicate};
+ghost use Rattle.std.specs.Option.{is_some};
 ghost use Rattle.agc_plan.specs.Base.{with_phase};
-ghost use Rattle.agc_plan.specs.Ranges.{IsSix};
 ghost use Rattle.agc_phase.specs.Image.{base_of, Becomes, code_of_word, phases_in, ArePairs};
-ghost use Rattle.agc_image.specs.Codes.{Coded, code_of};
+ghost use Rattle.libagc.specs.Codes.{Coded, code_of, code_unless};
+ghost use Rattle.libagc.specs.FromC.{phase_from_c, six_from_c};
+ghost use Rattle.libagc.specs.declared.fault.Fault.TheVariants.{OutOfRange};
 ghost use Rattle.agc_image.specs.Images.{AreWords, Changed};
 ghost use Rattle.libagc.specs.Phases.{Records};
 
-use agc_image::{Fault, blank_image, image_fault, open, twelve, write_back};
+use crate::fault::{Fault, image_in};
+use crate::numbers;
+use agc_image::{twelve, write_back};
 use agc_phase::{Phases, record_alarm, recover, set_phase};
 
 /// The six phases in twelve phase words: a code, and the phases of groups 1 to 6, which are all 0
@@ -37,27 +41,26 @@ impl AgcPhases {
 /// PHASE TABLE MAINTENANCE section; the greatest phase: profile.
 #[unsafe(no_mangle)]
 pub extern "C" fn agc_set_phase(words: &mut [u16; 144], sets: u32, group: u32, phase: u32) -> u32
-    ensures code { Coded result sets words.old (IsSix group × (phase ≤ 127)) (Unit {0}) (Unit {0}) }
+    ensures code { Coded result sets words.old
+        (code_unless (is_some (six_from_c group) && is_some (phase_from_c phase)) OutOfRange) }
     ensures served { result ≡ 0
         → Changed (λ old new. Becomes (with_phase group phase (base_of old)) old new)
         sets words.old words.new }
     ensures with_fault { ¬ (result ≡ 0) → words.new ≡ words.old }
 {
-    match image_fault(words, sets) {
-        Some(fault) => fault.code(),
-        None => {
-            let Some(group) = agc_image::group(group) else {
-                return Fault::OutOfRange.code();
-            };
-            let Some(phase) = agc_image::phase(phase) else {
-                return Fault::OutOfRange.code();
-            };
-            let mut image = blank_image(sets);
-            open(words, sets, &mut image);
-            set_phase(&mut image, group, phase);
-            write_back(&image, words);
-            0
-        }
+    match image_in(words, sets) {
+        Err(fault) => fault.code(),
+        Ok(mut image) => match numbers::group(group) {
+            None => Fault::OutOfRange.code(),
+            Some(group) => match numbers::phase(phase) {
+                None => Fault::OutOfRange.code(),
+                Some(phase) => {
+                    set_phase(&mut image, group, phase);
+                    write_back(&image, words);
+                    0
+                }
+            },
+        },
     }
 }
 
@@ -66,22 +69,20 @@ pub extern "C" fn agc_set_phase(words: &mut [u16; 144], sets: u32, group: u32, p
 #[unsafe(no_mangle)]
 pub extern "C" fn agc_record_alarm(words: &mut [u16; 144], sets: u32, alarm: u32) -> u32
     ensures code { Coded result sets words.old
-        (IsSome (code_of_word alarm)) (Unit {0}) (Unit {0}) }
+        (code_unless (is_some (code_of_word alarm)) OutOfRange) }
     ensures served { result ≡ 0 → Changed (Records alarm) sets words.old words.new }
     ensures with_fault { ¬ (result ≡ 0) → words.new ≡ words.old }
 {
-    match image_fault(words, sets) {
-        Some(fault) => fault.code(),
-        None => {
-            let Some(code) = agc_image::alarm_code(alarm) else {
-                return Fault::OutOfRange.code();
-            };
-            let mut image = blank_image(sets);
-            open(words, sets, &mut image);
-            record_alarm(&mut image, code);
-            write_back(&image, words);
-            0
-        }
+    match image_in(words, sets) {
+        Err(fault) => fault.code(),
+        Ok(mut image) => match numbers::alarm_code(alarm) {
+            None => Fault::OutOfRange.code(),
+            Some(code) => {
+                record_alarm(&mut image, code);
+                write_back(&image, words);
+                0
+            }
+        },
     }
 }
 
@@ -102,9 +103,8 @@ pub(crate) fn numbers_of(phases: &Phases) -> [u8; 6]
 /// the greatest phase: profile.
 #[unsafe(no_mangle)]
 pub extern "C" fn agc_recover(words: &[u16; 12]) -> AgcPhases
-    ensures served { (result.code ≡ 0) ↔ (AreWords words.now × ArePairs words.now) }
-    ensures not_words { (result.code ≡ 2) ↔ ¬ AreWords words.now }
-    ensures unlawful { (result.code ≡ 3) ↔ (AreWords words.now × ¬ ArePairs words.now) }
+    ensures code { (¬ AreWords words.now × (result.code ≡ 2)) ⊎ (AreWords words.now
+        × ((ArePairs words.now × (result.code ≡ 0)) ⊎ (¬ ArePairs words.now × (result.code ≡ 3)))) }
     ensures phases { result.phases
         ≡ (if result.code == 0 then phases_in words.now else replicate 6 0) }
 {

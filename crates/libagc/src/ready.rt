@@ -4,14 +4,7 @@ ghost use Rattle.agc_word.specs.Layout.{IsSized, sets_in};
 ghost use Rattle.agc_exec.specs.Blocks.{blocks_of};
 ghost use Rattle.agc_exec.specs.Image as cores;
 ghost use Rattle.agc_wait.specs.Table as table;
-ghost use Rattle.agc_image.specs.Images.{IsLawful};
-ghost use Rattle.agc_image.specs.Codes.{code_for};
-ghost use Rattle.agc_machine.specs.Stands.{IsReady};
-ghost use Rattle.agc_wait.specs.Table.{waits_of};
-ghost use Rattle.agc_wait.specs.Waits.{is_due};
-ghost use Rattle.libagc.specs.Stepping.{Timed};
 
-use agc_image::Fault;
 use agc_word::Erasable;
 use agc_word::layout::{LST1, set_place};
 
@@ -62,32 +55,14 @@ fn are_tidy_gaps(e: &Erasable) -> bool
     true
 }
 
-/// Whether lawful words are tidy, and no task is due.
-fn is_ready(e: &Erasable) -> bool
-    requires { IsLawful e.now }
-    ensures yes { result ≡ true → IsReady e.now }
-    ensures no { IsReady e.now → result ≡ true }
-    ensures due { result ≡ true → is_due (waits_of e.now) ≡ false }
+/// Whether words are as a step leaves them, once they are lawful and no task is due.
+pub(crate) fn is_tidy(e: &Erasable) -> bool
+    requires { IsSized e.now }
+    ensures yes { result ≡ true → cores.IsTidy e.now × table.IsTidy e.now }
+    ensures no { cores.IsTidy e.now × table.IsTidy e.now → result ≡ true }
 {
     if !are_tidy_sets(e) {
         return false;
     }
-    if !are_tidy_gaps(e) {
-        return false;
-    }
-    !agc_wait::due(e)
-}
-
-/// The fault of lawful words that aren't between requests: a task is due, or else they aren't tidy.
-pub(crate) fn time_fault(e: &Erasable) -> Option<Fault>
-    requires { IsLawful e.now }
-    ensures { Timed (code_for result) e.now }
-{
-    if is_ready(e) {
-        None
-    } else if agc_wait::due(e) {
-        Some(Fault::NotNow)
-    } else {
-        Some(Fault::Untidy)
-    }
+    are_tidy_gaps(e)
 }

@@ -1,9 +1,9 @@
 // The replies of calls.
 ghost use Rattle.std.specs.Prelude.{◌≡◌, false};
-ghost use Rattle.agc_image.specs.Codes.{code_of};
+ghost use Rattle.libagc.specs.Codes.{code_of};
 ghost use Rattle.libagc.specs.Replies.{alarm_code, reply_to_c, refusal};
 
-use agc_image::Fault;
+use crate::fault::Fault;
 use agc_plan::{Alarm, Reply};
 
 /// The reply to a request: a code, 0 if it was served, then the kind of the reply, and its number:
@@ -11,16 +11,13 @@ use agc_plan::{Alarm, Reply};
 #[repr(C)]
 #[derive(Clone, Copy)]
 pub struct AgcReply {
-    /// 0 if the request was served, else the code of what it lacked.
     pub code: u32,
-    /// The kind of the reply, 1 to 10; 0 if the request was not served.
     pub reply: u32,
-    /// The number of the job that the reply names, or the alarm's code; else 0.
     pub number: u32,
 }
 
 /// The word that FAILREG has for an alarm.
-pub(crate) fn alarm_code(alarm: Alarm) -> u32
+fn alarm_code(alarm: Alarm) -> u32
     ensures { result ≡ alarm_code alarm }
 {
     match alarm {
@@ -58,9 +55,10 @@ impl AgcReply {
             Reply::Stored => AgcReply::reply_with(8, 0),
             Reply::Listed => AgcReply::reply_with(9, 0),
             Reply::Alarmed(alarm) => AgcReply::reply_with(10, alarm_code(*alarm)),
-            Reply::Phased => AgcReply::reply_with(0, 0),
-            Reply::Ticked(_) => AgcReply::reply_with(0, 0),
-            Reply::Restarted => AgcReply::reply_with(0, 0),
+            Reply::Phased => AgcReply::reply_with(11, 0),
+            Reply::Ticked(None) => AgcReply::reply_with(12, 0),
+            Reply::Ticked(Some(alarm)) => AgcReply::reply_with(13, alarm_code(*alarm)),
+            Reply::Restarted => AgcReply::reply_with(14, 0),
         }
     }
 
@@ -80,13 +78,18 @@ impl AgcReply {
 #[repr(C)]
 #[derive(Clone, Copy)]
 pub struct AgcNumber {
-    /// 0 if the call was served, else the code of what it lacked.
     pub code: u32,
-    /// The number.
     pub number: u32,
 }
 
 impl AgcNumber {
+    /// A number that a call tells.
+    pub(crate) fn of(number: u32) -> AgcNumber
+        ensures { result ≡ record { code = 0; number = number } }
+    {
+        AgcNumber { code: 0, number }
+    }
+
     /// The reply to a call that was not served.
     pub(crate) fn with_fault(fault: Fault) -> AgcNumber
         ensures { result ≡ record { code = code_of fault; number = 0 } }
@@ -102,9 +105,7 @@ impl AgcNumber {
 #[repr(C)]
 #[derive(Clone, Copy)]
 pub struct AgcTruth {
-    /// 0 if the call was served, else the code of what it lacked.
     pub code: u32,
-    /// The answer.
     pub truth: bool,
 }
 
@@ -125,11 +126,8 @@ impl AgcTruth {
 #[repr(C)]
 #[derive(Clone, Copy)]
 pub struct AgcTask {
-    /// 0 if the call was served, else the code of what it lacked.
     pub code: u32,
-    /// Where the task begins.
     pub at: u32,
-    /// The word for its bank.
     pub bank: u32,
 }
 

@@ -4,11 +4,11 @@ ghost use Rattle.agc_image.specs.Images.{IsLawful};
 ghost use Rattle.libagc.specs.Replies.{listing};
 ghost use Rattle.libagc.specs.Requests.{Answers, Does};
 
+use crate::fault::image_in;
+use crate::reading::{AgcRequest, request_fault, request_of};
 use crate::reply::AgcReply;
 use agc_exec::{change_job, end_of_job, findvac, job_sleep, job_wake, novac, prio_change, store};
-use agc_image::{
-    AgcRequest, blank_image, image_fault, open, request_fault, request_of, write_back,
-};
+use agc_image::write_back;
 use agc_plan::{Alarm, Reply, Request};
 use agc_wait::list;
 use agc_word::Erasable;
@@ -25,6 +25,7 @@ fn listing(accepted: bool) -> Reply
 }
 
 /// Serves a request of the Executive or the Waitlist. Others do nothing here.
+#[tactic(auto, using(agc_image::proofs::Frames::lawful_by_cores))]
 fn serve(request: &Request, e: &mut Erasable) -> Reply
     requires { IsLawful e.old }
     ensures does { Does request.now e.old e.new result }
@@ -49,13 +50,11 @@ fn serve(request: &Request, e: &mut Erasable) -> Reply
 pub(crate) fn ask(words: &mut [u16; 144], sets: u32, request: &AgcRequest) -> AgcReply
     ensures { Answers request.now sets words.old words.new result }
 {
-    match image_fault(words, sets) {
-        Some(fault) => AgcReply::with_fault(fault),
-        None => match request_of(request) {
+    match image_in(words, sets) {
+        Err(fault) => AgcReply::with_fault(fault),
+        Ok(mut image) => match request_of(request) {
             None => AgcReply::with_fault(request_fault(request)),
             Some(request) => {
-                let mut image = blank_image(sets);
-                open(words, sets, &mut image);
                 let reply = serve(&request, &mut image);
                 write_back(&image, words);
                 AgcReply::of(&reply)

@@ -1,18 +1,18 @@
 // All that the tables hold, in one struct.
 ghost use Rattle.std.specs.Prelude.{◌≡◌, ◌≤◌};
 ghost use Rattle.agc_wait.specs.Table.{IsLawfulTable};
-ghost use Rattle.agc_image.specs.Codes.{Coded};
+ghost use Rattle.libagc.specs.Codes.{Coded};
 ghost use Rattle.agc_image.specs.Images.{IsOpened, IsSets};
 ghost use Rattle.libagc.specs.Scenes.{owner_in, owners_in, scene_to_c, set_to_c, sets_to_c};
 ghost use Rattle.libagc.specs.Scenes.{task_in, tasks_to_c};
 
+use crate::fault::image_in;
 use crate::jobs::number_of;
 use crate::phases::numbers_of;
 use crate::tables::{
     AgcJob, AgcWaiting, failreg_at, job_number_to_c, job_to_c, task_to_c, waiting_at,
 };
 use agc_exec::{job_at, named_job, running};
-use agc_image::{blank_image, image_fault, open};
 use agc_phase::phases;
 use agc_word::Erasable;
 
@@ -20,9 +20,8 @@ use agc_word::Erasable;
 #[repr(C)]
 #[derive(Clone, Copy)]
 pub struct AgcScene {
-    /// The number of the running job; 0 for none.
+    /// The number of the running job, and of the one that NEWJOB names; 0 for none.
     pub running: u32,
-    /// The number of the job that NEWJOB names; 0 for none.
     pub next: u32,
     /// The jobs in the core sets, each with code 0; no job beyond the last set.
     pub sets: [AgcJob; 8],
@@ -129,7 +128,7 @@ fn scene_to_c(words: &[u16; 144], sets: u32, image: &Erasable) -> AgcScene
     let jobs = sets_to_c(words, sets, image);
     AgcScene {
         running: number_of(running(image)),
-        next: job_number_to_c(named_job(image)).number,
+        next: job_number_to_c(named_job(image)),
         sets: jobs,
         areas: owners_in(&jobs),
         tasks: tasks_to_c(image),
@@ -146,15 +145,13 @@ fn scene_to_c(words: &[u16; 144], sets: u32, image: &Erasable) -> AgcScene
 /// EXECUTIVE, WAITLIST and PHASE TABLE MAINTENANCE sections; numbers: profile.
 #[unsafe(no_mangle)]
 pub extern "C" fn agc_scene(words: &[u16; 144], sets: u32, scene: &mut AgcScene) -> u32
-    ensures code { Coded result sets words.now (Unit {0}) (Unit {0}) (Unit {0}) }
+    ensures code { Coded result sets words.now 0 }
     ensures served { result ≡ 0 → scene.new ≡ scene_to_c sets words.now }
     ensures refused { ¬ (result ≡ 0) → scene.new ≡ scene.old }
 {
-    match image_fault(words, sets) {
-        Some(fault) => fault.code(),
-        None => {
-            let mut image = blank_image(sets);
-            open(words, sets, &mut image);
+    match image_in(words, sets) {
+        Err(fault) => fault.code(),
+        Ok(image) => {
             *scene = scene_to_c(words, sets, &image);
             0
         }

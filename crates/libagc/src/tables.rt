@@ -1,20 +1,23 @@
 // The contents of the tables: jobs, tasks, areas, phases and codes, one place per call.
-ghost use Rattle.std.specs.Prelude.{◌≡◌, ◌-◌, ◌<◌, ◌≤◌, Some, None, Option, slice_get};
+ghost use Rattle.std.specs.Prelude.{◌≡◌, ◌-◌, ◌<◌, ◌≤◌, nat_lt, Some, None, Option, slice_get};
+ghost use Rattle.std.specs.Option.{is_some};
 ghost use Rattle.std.specs.Prelude.{slice_index};
-ghost use Rattle.agc_plan.specs.Ranges.{IsSix};
 ghost use Rattle.agc_exec.specs.Image.{jobs_in};
 ghost use Rattle.agc_exec.specs.Seats.{named_of, seats_in};
 ghost use Rattle.agc_exec.specs.declared.seats.Seat as exec;
 ghost use Rattle.agc_phase.specs.Image.{base_of, failreg_word};
 ghost use Rattle.agc_wait.specs.Table.{IsLawfulTable, waits_of};
-ghost use Rattle.agc_image.specs.Codes.{Coded, code_of};
+ghost use Rattle.libagc.specs.Codes.{Coded, code_unless};
+ghost use Rattle.libagc.specs.FromC.{six_from_c};
+ghost use Rattle.libagc.specs.declared.fault.Fault.TheVariants.{OutOfRange};
 ghost use Rattle.agc_image.specs.Images.{IsImage, IsOpened, image_of};
 ghost use Rattle.libagc.specs.Replies.{number_to_c};
 ghost use Rattle.libagc.specs.Tables.{job_to_c, no_job, no_task, task_to_c, work_at};
 
+use crate::fault::{Fault, image_in};
+use crate::numbers;
 use crate::reply::AgcNumber;
 use agc_exec::{Seat, job_at, named_job};
-use agc_image::{Fault, blank_image, image_fault, open};
 use agc_phase::{failreg, phases};
 use agc_wait::{Waiting, tasks_waiting};
 use agc_word::Erasable;
@@ -25,19 +28,16 @@ use agc_word::layout::set_place;
 #[repr(C)]
 #[derive(Clone, Copy)]
 pub struct AgcJob {
-    /// 0 if the call was served, else the code of what it lacked.
     pub code: u32,
-    /// The job's number, 1 to 8; 0 if the set is free.
+    /// 1 to 8; 0 if the set is free.
     pub number: u32,
-    /// Its priority, 1 to 31.
+    /// 1 to 31.
     pub priority: u32,
     /// The address where it begins, or at which it sleeps, 1 to 16383.
     pub at: u32,
-    /// The word for its bank, 0 to 32767.
     pub bank: u32,
     /// Its VAC area, 1 to 5; 0 for none.
     pub area: u32,
-    /// Whether it sleeps.
     pub asleep: bool,
     /// Its work words, MPAC+1 to MPAC+6.
     pub work: [u16; 6],
@@ -48,24 +48,15 @@ pub struct AgcJob {
 #[repr(C)]
 #[derive(Clone, Copy)]
 pub struct AgcWaiting {
-    /// 0 if the call was served, else the code of what it lacked.
     pub code: u32,
     /// The address where the task begins, 1 to 16383; 0 for no task.
     pub at: u32,
-    /// The word for its bank, 0 to 32767.
     pub bank: u32,
     /// The centiseconds that are left to it, 0 to 16250.
     pub left: u32,
 }
 
 impl AgcJob {
-    /// The call was not served.
-    fn with_fault(fault: Fault) -> AgcJob
-        ensures { result ≡ no_job (code_of fault) }
-    {
-        AgcJob::none(fault.code())
-    }
-
     /// No job, with this code.
     pub(crate) fn none(code: u32) -> AgcJob
         ensures { result ≡ no_job code }
@@ -84,13 +75,6 @@ impl AgcJob {
 }
 
 impl AgcWaiting {
-    /// The call was not served.
-    fn with_fault(fault: Fault) -> AgcWaiting
-        ensures { result ≡ no_task (code_of fault) }
-    {
-        AgcWaiting::none(fault.code())
-    }
-
     /// No task, with this code.
     pub(crate) fn none(code: u32) -> AgcWaiting
         ensures { result ≡ no_task code }
@@ -122,7 +106,7 @@ fn work_at(words: &[u16; 144], place: usize) -> [u16; 6]
 /// The contents of a core set, in numbers.
 pub(crate) fn job_to_c(words: &[u16; 144], set: usize, seat: Option<Seat>) -> AgcJob
     requires { set ≤ 7 }
-    ensures job_number_to_c { result ≡ job_to_c set words.now seat }
+    ensures job { result ≡ job_to_c set words.now seat }
     ensures served { result.code ≡ 0 }
 {
     match seat {
@@ -144,20 +128,18 @@ pub(crate) fn job_to_c(words: &[u16; 144], set: usize, seat: Option<Seat>) -> Ag
 /// EXECUTIVE section; numbers: profile.
 #[unsafe(no_mangle)]
 pub extern "C" fn agc_job_at(words: &[u16; 144], sets: u32, set: u32) -> AgcJob
-    ensures code { Coded result.code sets words.now (set < sets) (Unit {0}) (Unit {0}) }
+    ensures code { Coded result.code sets words.now (code_unless (nat_lt set sets) OutOfRange) }
     ensures served { (seat : Option exec.Seat) → result.code ≡ 0
         → slice_get (seats_in (image_of sets words.now)) set ≡ Some seat
         → result ≡ job_to_c set words.now seat }
     ensures with_fault { ¬ (result.code ≡ 0) → result ≡ no_job result.code }
 {
-    match image_fault(words, sets) {
-        Some(fault) => AgcJob::with_fault(fault),
-        None => {
+    match image_in(words, sets) {
+        Err(fault) => AgcJob::none(fault.code()),
+        Ok(image) => {
             if set >= sets {
-                return AgcJob::with_fault(Fault::OutOfRange);
+                return AgcJob::none(Fault::OutOfRange.code());
             }
-            let mut image = blank_image(sets);
-            open(words, sets, &mut image);
             job_to_c(words, set as usize, job_at(&image, set as usize))
         }
     }
@@ -168,32 +150,24 @@ pub extern "C" fn agc_job_at(words: &[u16; 144], sets: u32, set: u32) -> AgcJob
 /// section; numbers: profile.
 #[unsafe(no_mangle)]
 pub extern "C" fn agc_next(words: &[u16; 144], sets: u32) -> AgcNumber
-    ensures code { Coded result.code sets words.now (Unit {0}) (Unit {0}) (Unit {0}) }
+    ensures code { Coded result.code sets words.now 0 }
     ensures served { result.code ≡ 0
         → result.number ≡ number_to_c (named_of (jobs_in (image_of sets words.now))) }
     ensures with_fault { ¬ (result.code ≡ 0) → result.number ≡ 0 }
 {
-    match image_fault(words, sets) {
-        Some(fault) => AgcNumber::with_fault(fault),
-        None => {
-            let mut image = blank_image(sets);
-            open(words, sets, &mut image);
-            job_number_to_c(named_job(&image))
-        }
+    match image_in(words, sets) {
+        Err(fault) => AgcNumber::with_fault(fault),
+        Ok(image) => AgcNumber::of(job_number_to_c(named_job(&image))),
     }
 }
 
 /// A job's number, 0 for none.
-pub(crate) fn job_number_to_c(job: Option<u16>) -> AgcNumber
-    ensures number { result.number ≡ number_to_c job }
-    ensures served { result.code ≡ 0 }
+pub(crate) fn job_number_to_c(job: Option<u16>) -> u32
+    ensures { result ≡ number_to_c job }
 {
     match job {
-        Some(number) => AgcNumber {
-            code: 0,
-            number: u32::from(number),
-        },
-        None => AgcNumber { code: 0, number: 0 },
+        Some(number) => u32::from(number),
+        None => 0,
     }
 }
 
@@ -211,7 +185,7 @@ pub(crate) fn waiting_at(image: &Erasable, place: usize) -> Option<Waiting>
 
 /// A task that waits, or none, in numbers.
 pub(crate) fn task_to_c(waiting: Option<Waiting>) -> AgcWaiting
-    ensures job_number_to_c { result ≡ task_to_c waiting }
+    ensures task { result ≡ task_to_c waiting }
     ensures served { result.code ≡ 0 }
 {
     match waiting {
@@ -230,19 +204,17 @@ pub(crate) fn task_to_c(waiting: Option<Waiting>) -> AgcWaiting
 /// listings' WAITLIST section.
 #[unsafe(no_mangle)]
 pub extern "C" fn agc_task_at(words: &[u16; 144], sets: u32, place: u32) -> AgcWaiting
-    ensures code { Coded result.code sets words.now (place < 9) (Unit {0}) (Unit {0}) }
+    ensures code { Coded result.code sets words.now (code_unless (nat_lt place 9) OutOfRange) }
     ensures served { result.code ≡ 0
         → result ≡ task_to_c (slice_get (waits_of (image_of sets words.now)) place) }
     ensures with_fault { ¬ (result.code ≡ 0) → result ≡ no_task result.code }
 {
-    match image_fault(words, sets) {
-        Some(fault) => AgcWaiting::with_fault(fault),
-        None => {
+    match image_in(words, sets) {
+        Err(fault) => AgcWaiting::none(fault.code()),
+        Ok(image) => {
             if place >= 9 {
-                return AgcWaiting::with_fault(Fault::OutOfRange);
+                return AgcWaiting::none(Fault::OutOfRange.code());
             }
-            let mut image = blank_image(sets);
-            open(words, sets, &mut image);
             task_to_c(waiting_at(&image, place as usize))
         }
     }
@@ -252,25 +224,21 @@ pub extern "C" fn agc_task_at(words: &[u16; 144], sets: u32, place: u32) -> AgcW
 /// listings' PHASE TABLE MAINTENANCE section.
 #[unsafe(no_mangle)]
 pub extern "C" fn agc_phase_at(words: &[u16; 144], sets: u32, group: u32) -> AgcNumber
-    ensures code { Coded result.code sets words.now (IsSix group) (Unit {0}) (Unit {0}) }
+    ensures code { Coded result.code sets words.now
+        (code_unless (is_some (six_from_c group)) OutOfRange) }
     ensures served { result.code ≡ 0
         → result.number
         ≡ slice_index (base_of (image_of sets words.now)).phases (group - 1) }
     ensures with_fault { ¬ (result.code ≡ 0) → result.number ≡ 0 }
 {
-    match image_fault(words, sets) {
-        Some(fault) => AgcNumber::with_fault(fault),
-        None => {
-            let Some(group) = agc_image::group(group) else {
-                return AgcNumber::with_fault(Fault::OutOfRange);
-            };
-            let mut image = blank_image(sets);
-            open(words, sets, &mut image);
-            AgcNumber {
-                code: 0,
-                number: u32::from(phases(&image)[group.get() as usize - 1].get()),
+    match image_in(words, sets) {
+        Err(fault) => AgcNumber::with_fault(fault),
+        Ok(image) => match numbers::group(group) {
+            None => AgcNumber::with_fault(Fault::OutOfRange),
+            Some(group) => {
+                AgcNumber::of(u32::from(phases(&image)[group.get() as usize - 1].get()))
             }
-        }
+        },
     }
 }
 
@@ -286,23 +254,18 @@ pub(crate) fn failreg_at(image: &Erasable, place: usize) -> u32
 /// there is no such word.
 #[unsafe(no_mangle)]
 pub extern "C" fn agc_failreg(words: &[u16; 144], sets: u32, place: u32) -> AgcNumber
-    ensures code { Coded result.code sets words.now (place < 3) (Unit {0}) (Unit {0}) }
+    ensures code { Coded result.code sets words.now (code_unless (nat_lt place 3) OutOfRange) }
     ensures served { result.code ≡ 0
         → result.number ≡ failreg_word (image_of sets words.now) place }
     ensures with_fault { ¬ (result.code ≡ 0) → result.number ≡ 0 }
 {
-    match image_fault(words, sets) {
-        Some(fault) => AgcNumber::with_fault(fault),
-        None => {
+    match image_in(words, sets) {
+        Err(fault) => AgcNumber::with_fault(fault),
+        Ok(image) => {
             if place >= 3 {
                 return AgcNumber::with_fault(Fault::OutOfRange);
             }
-            let mut image = blank_image(sets);
-            open(words, sets, &mut image);
-            AgcNumber {
-                code: 0,
-                number: failreg_at(&image, place as usize),
-            }
+            AgcNumber::of(failreg_at(&image, place as usize))
         }
     }
 }

@@ -1,16 +1,18 @@
 // The Waitlist's calls.
-ghost use Rattle.std.specs.Prelude.{◌≡◌, false};
+ghost use Rattle.std.specs.Prelude.{◌≡◌, not, false};
 ghost use Rattle.agc_wait.specs.Calls.{Counts, Dispatches, TellsDue};
-ghost use Rattle.agc_image.specs.Codes.{Coded};
+ghost use Rattle.libagc.specs.Codes.{Coded, code_unless};
+ghost use Rattle.libagc.specs.declared.fault.Fault.TheVariants.{NotNow};
 ghost use Rattle.agc_image.specs.Images.{image_of, Changed};
 ghost use Rattle.libagc.specs.Requests.{Answers};
 ghost use Rattle.libagc.specs.Spelled.{request_with};
-ghost use Rattle.libagc.specs.Tasks.{NoneDue, OneDue};
+ghost use Rattle.libagc.specs.Tasks.{one_due};
 
+use crate::fault::{Fault, image_in};
 use crate::lines::request_with;
 use crate::reply::{AgcReply, AgcTask, AgcTruth};
 use crate::requests::ask;
-use agc_image::{Fault, blank_image, image_fault, open, write_back};
+use agc_image::write_back;
 use agc_wait::{count_time3, dispatch, due};
 
 /// WAITLIST: lists a task at this address, 1 to 16383, in this bank, a word, due in this many
@@ -34,17 +36,16 @@ pub extern "C" fn agc_list(
 /// listings' WAITLIST section.
 #[unsafe(no_mangle)]
 pub extern "C" fn agc_count_time3(words: &mut [u16; 144], sets: u32) -> AgcTruth
-    ensures code { Coded result.code sets words.old (Unit {0}) (Unit {0}) (NoneDue sets words.old) }
+    ensures code { Coded result.code sets words.old
+        (code_unless (not (one_due sets words.old)) NotNow) }
     ensures served { result.code ≡ 0
         → Changed (λ old new. Counts old result.truth new) sets words.old words.new }
     ensures with_fault { ¬ (result.code ≡ 0)
         → (words.new ≡ words.old) × (result.truth ≡ false) }
 {
-    match image_fault(words, sets) {
-        Some(fault) => AgcTruth::with_fault(fault),
-        None => {
-            let mut image = blank_image(sets);
-            open(words, sets, &mut image);
+    match image_in(words, sets) {
+        Err(fault) => AgcTruth::with_fault(fault),
+        Ok(mut image) => {
             if due(&image) {
                 return AgcTruth::with_fault(Fault::NotNow);
             }
@@ -58,20 +59,16 @@ pub extern "C" fn agc_count_time3(words: &mut [u16; 144], sets: u32) -> AgcTruth
 /// Whether a task is due now. Source: the listings' WAITLIST section.
 #[unsafe(no_mangle)]
 pub extern "C" fn agc_due(words: &[u16; 144], sets: u32) -> AgcTruth
-    ensures code { Coded result.code sets words.now (Unit {0}) (Unit {0}) (Unit {0}) }
+    ensures code { Coded result.code sets words.now 0 }
     ensures served { result.code ≡ 0 → TellsDue (image_of sets words.now) result.truth }
     ensures with_fault { ¬ (result.code ≡ 0) → result.truth ≡ false }
 {
-    match image_fault(words, sets) {
-        Some(fault) => AgcTruth::with_fault(fault),
-        None => {
-            let mut image = blank_image(sets);
-            open(words, sets, &mut image);
-            AgcTruth {
-                code: 0,
-                truth: due(&image),
-            }
-        }
+    match image_in(words, sets) {
+        Err(fault) => AgcTruth::with_fault(fault),
+        Ok(image) => AgcTruth {
+            code: 0,
+            truth: due(&image),
+        },
     }
 }
 
@@ -79,18 +76,16 @@ pub extern "C" fn agc_due(words: &[u16; 144], sets: u32) -> AgcTruth
 /// Code 6 if none is due. Source: the listings' WAITLIST section.
 #[unsafe(no_mangle)]
 pub extern "C" fn agc_dispatch(words: &mut [u16; 144], sets: u32) -> AgcTask
-    ensures code { Coded result.code sets words.old (Unit {0}) (Unit {0}) (OneDue sets words.old) }
+    ensures code { Coded result.code sets words.old (code_unless (one_due sets words.old) NotNow) }
     ensures served { result.code ≡ 0
         → Changed (λ old new. Dispatches old (record { at = result.at; bank = result.bank }) new)
         sets words.old words.new }
     ensures with_fault { ¬ (result.code ≡ 0)
         → (words.new ≡ words.old) × (result.at ≡ 0) × (result.bank ≡ 0) }
 {
-    match image_fault(words, sets) {
-        Some(fault) => AgcTask::with_fault(fault),
-        None => {
-            let mut image = blank_image(sets);
-            open(words, sets, &mut image);
+    match image_in(words, sets) {
+        Err(fault) => AgcTask::with_fault(fault),
+        Ok(mut image) => {
             if !due(&image) {
                 return AgcTask::with_fault(Fault::NotNow);
             }

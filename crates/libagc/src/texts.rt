@@ -1,13 +1,15 @@
 // The lines that `agc` writes, in room that a caller lends.
 ghost use Rattle.std.specs.Prelude.{◌≡◌, ◌⊎◌};
-ghost use Rattle.agc_image.specs.Codes.{Coded};
+ghost use Rattle.libagc.specs.Codes.{NoImage};
 ghost use Rattle.agc_image.specs.Images.{IsImage};
 
+use crate::fault::{Fault, image_in};
+use crate::reading::task_of;
 use crate::reply::AgcNumber;
 use crate::steps::{AgcFired, AgcStep};
-use agc_image::{Fault, Rule, address, blank_image, image_fault, open, word};
+use agc_image::Rule;
 use agc_machine::Totals;
-use agc_plan::{Alarm, Fired, JobNo, Reply, Task};
+use agc_plan::{Alarm, Fired, JobNo, Reply};
 use agc_text::{put_reply, report};
 use arrayvec::ArrayVec;
 
@@ -15,13 +17,9 @@ use arrayvec::ArrayVec;
 #[repr(C)]
 #[derive(Clone, Copy)]
 pub struct AgcTotals {
-    /// All requests that were served.
     pub served: u64,
-    /// Requests that raised alarm 1201.
     pub alarms_1201: u64,
-    /// Requests that raised alarm 1202.
     pub alarms_1202: u64,
-    /// Requests that raised alarm 1203.
     pub alarms_1203: u64,
     /// Requests with which an era began.
     pub restarts: u64,
@@ -29,10 +27,7 @@ pub struct AgcTotals {
 
 /// A job's number.
 fn job_of(number: u32) -> Option<JobNo> {
-    match u8::try_from(number) {
-        Ok(number) => JobNo::new(number),
-        Err(_) => None,
-    }
+    JobNo::new(u8::try_from(number).ok()?)
 }
 
 /// An alarm, as FAILREG has it.
@@ -66,24 +61,13 @@ fn reply_of(step: &AgcStep) -> Option<Reply> {
     }
 }
 
-/// A task that fired.
-fn task_of(fired: &AgcFired) -> Option<Task> {
-    match (address(fired.at), word(fired.bank)) {
-        (Some(at), Some(bank)) => Some(Task { at, bank }),
-        _ => None,
-    }
-}
-
 /// The first tasks of those that fired. None if one of them is no task, or there are more than
 /// nine.
 fn fired_of(fired: &[AgcFired; 9], count: u32) -> Option<Fired> {
     let mut list = Fired::new();
     for k in 0..9usize {
         if k < count as usize {
-            match task_of(&fired[k]) {
-                Some(task) => list.push(task),
-                None => return None,
-            }
+            list.push(task_of(fired[k].at, fired[k].bank)?);
         }
     }
     if count > 9 { None } else { Some(list) }
@@ -94,10 +78,7 @@ fn hand_out(line: &[u8], text: &mut [u8]) -> AgcNumber
     ensures code { (result.code ≡ 0) ⊎ (result.code ≡ 14) }
     ensures with_fault { ¬ (result.code ≡ 0) → text.new ≡ text.old }
 {
-    let number = match u32::try_from(line.len()) {
-        Ok(number) => number,
-        Err(_) => 0,
-    };
+    let number = u32::try_from(line.len()).unwrap_or(0);
     if line.len() > text.len() {
         return AgcNumber {
             code: Fault::NoRoom.code(),
@@ -105,7 +86,7 @@ fn hand_out(line: &[u8], text: &mut [u8]) -> AgcNumber
         };
     }
     text[..line.len()].copy_from_slice(line);
-    AgcNumber { code: 0, number }
+    AgcNumber::of(number)
 }
 
 /// Writes the line that `agc` writes for a step's reply, with its end and no zero byte, at most 128
@@ -136,8 +117,8 @@ pub extern "C" fn agc_write_reply(
 pub extern "C" fn agc_write_rule(rule: u32, text: &mut [u8]) -> AgcNumber
     ensures refused { ¬ (result.code ≡ 0) → text.new ≡ text.old }
 {
-    match Rule::of_number(rule) {
-        Some(rule) => hand_out(rule.text().as_bytes(), text),
+    match Rule::sentence(rule) {
+        Some(sentence) => hand_out(sentence.as_bytes(), text),
         None => AgcNumber::with_fault(Fault::OutOfRange),
     }
 }
@@ -151,17 +132,14 @@ pub extern "C" fn agc_write_report(
     totals: &AgcTotals,
     text: &mut [u8],
 ) -> AgcNumber
-    ensures unopened { ¬ IsImage sets words.now
-        → Coded result.code sets words.now (Unit {0}) (Unit {0}) (Unit {0}) }
-    ensures opened { IsImage sets words.now
-        → (result.code ≡ 0) ⊎ (result.code ≡ 4) ⊎ (result.code ≡ 14) }
+    ensures code { (IsImage sets words.now
+        × ((result.code ≡ 0) ⊎ (result.code ≡ 4) ⊎ (result.code ≡ 14)))
+        ⊎ NoImage result.code sets words.now }
     ensures with_fault { ¬ (result.code ≡ 0) → text.new ≡ text.old }
 {
-    match image_fault(words, sets) {
-        Some(fault) => AgcNumber::with_fault(fault),
-        None => {
-            let mut image = blank_image(sets);
-            open(words, sets, &mut image);
+    match image_in(words, sets) {
+        Err(fault) => AgcNumber::with_fault(fault),
+        Ok(image) => {
             let totals = Totals {
                 served: totals.served,
                 a1201: totals.alarms_1201,

@@ -1,14 +1,17 @@
 // The faults of a caller's timetable.
-ghost use Rattle.std.specs.Prelude.{◌≡◌};
-ghost use Rattle.agc_image.specs.Codes.{code_for};
-ghost use Rattle.libagc.specs.LateTimes.{is_steal, is_step, are_steps, is_cost, is_coming};
-ghost use Rattle.libagc.specs.LateTimes.{is_event};
-ghost use Rattle.libagc.specs.LateTimes.{are_steals, are_costs, are_events, are_requests};
-ghost use Rattle.libagc.specs.LateTimes.{meets, steals_twice, has_cost, costs_twice, times_lack};
+ghost use Rattle.std.specs.Prelude.{◌≡◌, ◌==◌};
+ghost use Rattle.std.specs.List.{list_all, list_any};
+ghost use Rattle.libagc.specs.Codes.{code_for};
+ghost use Rattle.agc_clock.specs.Timetables.{overlap};
+ghost use Rattle.libagc.specs.FromC.{is_request};
+ghost use Rattle.libagc.specs.LateTimes.{is_steal, is_step, is_cost, is_event};
+ghost use Rattle.libagc.specs.LateTimes.{are_in_range, steals_twice, costs_twice, times_lack};
 
+use crate::fault::Fault;
+use crate::numbers::address;
+use crate::reading::{AgcRequest, request_of};
 use crate::timetable::{AgcCost, AgcEvent, AgcTimetable, requests_from};
 use agc_clock::{LAST_TIME, Stolen, step_of};
-use agc_image::{AgcRequest, Fault, address, request_of};
 
 /// The greatest cost, in hundredths of a centisecond.
 const MOST_COST: u32 = 100000000;
@@ -32,14 +35,9 @@ fn is_step(numbers: &AgcRequest) -> bool
 
 /// Whether all requests are steps of a job.
 fn are_steps(requests: &[AgcRequest]) -> bool
-    ensures { result ≡ are_steps requests.now }
+    ensures { result ≡ list_all is_step requests.now }
 {
-    for request in requests {
-        if !is_step(request) {
-            return false;
-        }
-    }
-    true
+    requests.iter().all(|request| is_step(request))
 }
 
 /// Whether numbers are a cost, of a job that asks for some of these requests.
@@ -55,83 +53,23 @@ fn is_cost(row: &AgcCost, requests: &[AgcRequest]) -> bool
         && are_steps(requests_from(requests, row.first, row.count))
 }
 
-/// Whether an event's times are in range, and what they count from.
-fn is_coming(row: &AgcEvent) -> bool
-    ensures { result ≡ is_coming row.now }
-{
-    row.at <= LAST_TIME
-        && (row.every == 0 || row.until <= LAST_TIME)
-        && (row.after == 0 || (0o1201 <= row.after && row.after <= 0o1203))
-}
-
 /// Whether numbers are an event's, which asks for some of this many requests.
 fn is_event(row: &AgcEvent, requests: usize) -> bool
     ensures { result ≡ is_event requests row.now }
 {
-    is_coming(row)
+    row.at <= LAST_TIME
+        && (row.every == 0 || row.until <= LAST_TIME)
+        && (row.after == 0 || (0o1201 <= row.after && row.after <= 0o1203))
         && 0 < row.count
         && row.count <= 16
         && row.first as usize + row.count as usize <= requests
 }
 
-/// Whether all rows of stolen time are in range.
-fn are_steals(rows: &[Stolen]) -> bool
-    ensures { result ≡ are_steals rows.now }
-{
-    for row in rows {
-        if !is_steal(row) {
-            return false;
-        }
-    }
-    true
-}
-
-/// Whether the numbers of all rows are costs.
-fn are_costs(rows: &[AgcCost], requests: &[AgcRequest]) -> bool
-    ensures { result ≡ are_costs requests.now rows.now }
-{
-    for row in rows {
-        if !is_cost(row, requests) {
-            return false;
-        }
-    }
-    true
-}
-
-/// Whether the numbers of all rows are events.
-fn are_events(rows: &[AgcEvent], requests: usize) -> bool
-    ensures { result ≡ are_events requests rows.now }
-{
-    for row in rows {
-        if !is_event(row, requests) {
-            return false;
-        }
-    }
-    true
-}
-
-/// Whether the numbers of all rows are requests.
-fn are_requests(requests: &[AgcRequest]) -> bool
-    ensures { result ≡ are_requests requests.now }
-{
-    for request in requests {
-        if request_of(request).is_none() {
-            return false;
-        }
-    }
-    true
-}
-
 /// Whether a row of stolen time overlaps another.
 fn meets(row: &Stolen, others: &[Stolen]) -> bool
-    ensures { result ≡ meets row.now others.now }
+    ensures { result ≡ list_any (overlap row.now) others.now }
 {
-    for other in others {
-        if row.overlaps(other) {
-            return true;
-        }
-    }
-    false
+    others.iter().any(|other| row.overlaps(other))
 }
 
 /// Whether two rows of stolen time overlap.
@@ -148,14 +86,9 @@ fn steals_twice(rows: &[Stolen]) -> bool
 
 /// Whether an address has a cost.
 fn has_cost(at: u32, rows: &[AgcCost]) -> bool
-    ensures { result ≡ has_cost at rows.now }
+    ensures { result ≡ list_any (λ row. row.at == at) rows.now }
 {
-    for row in rows {
-        if row.at == at {
-            return true;
-        }
-    }
-    false
+    rows.iter().any(|row| row.at == at)
 }
 
 /// Whether an address has two costs.
@@ -170,6 +103,45 @@ fn costs_twice(rows: &[AgcCost]) -> bool
     false
 }
 
+fn are_steals(rows: &[Stolen]) -> bool
+    ensures { result ≡ list_all is_steal rows.now }
+{
+    rows.iter().all(|row| is_steal(row))
+}
+
+fn are_costs(rows: &[AgcCost], requests: &[AgcRequest]) -> bool
+    ensures { result ≡ list_all (is_cost requests.now) rows.now }
+{
+    rows.iter().all(|row| is_cost(row, requests))
+}
+
+fn are_events(rows: &[AgcEvent], requests: usize) -> bool
+    ensures { result ≡ list_all (is_event requests) rows.now }
+{
+    rows.iter().all(|row| is_event(row, requests))
+}
+
+fn are_requests(requests: &[AgcRequest]) -> bool
+    ensures { result ≡ list_all is_request requests.now }
+{
+    requests.iter().all(|request| request_of(request).is_some())
+}
+
+/// Whether the numbers of all rows are in range.
+fn are_in_range(
+    stolen: &[Stolen],
+    costs: &[AgcCost],
+    events: &[AgcEvent],
+    requests: &[AgcRequest],
+) -> bool
+    ensures { result ≡ are_in_range stolen.now costs.now events.now requests.now }
+{
+    are_steals(stolen)
+        && are_costs(costs, requests)
+        && are_events(events, requests.len())
+        && are_requests(requests)
+}
+
 /// The first fault for which rows are no timetable.
 pub(crate) fn times_lack(
     stolen: &[Stolen],
@@ -179,13 +151,7 @@ pub(crate) fn times_lack(
 ) -> Option<Fault>
     ensures { result ≡ times_lack stolen.now costs.now events.now requests.now }
 {
-    if !are_steals(stolen) {
-        Some(Fault::TimeRange)
-    } else if !are_costs(costs, requests) {
-        Some(Fault::TimeRange)
-    } else if !are_events(events, requests.len()) {
-        Some(Fault::TimeRange)
-    } else if !are_requests(requests) {
+    if !are_in_range(stolen, costs, events, requests) {
         Some(Fault::TimeRange)
     } else if steals_twice(stolen) {
         Some(Fault::StealTwice)

@@ -5,8 +5,9 @@ ghost use Rattle.libagc.specs.BorrowedTimes.{distances_from_c, event_after, even
 ghost use Rattle.libagc.specs.BorrowedTimes.{request_for, requests_from, step_in, steps_from_c};
 ghost use Rattle.libagc.specs.BorrowedTimes.{timetable_from_c};
 
+use crate::numbers::address;
+use crate::reading::{AgcRequest, request_of};
 use agc_clock::{Cost, Step, Stolen, Then, Times, Timetables, step_of};
-use agc_image::{AgcRequest, address, request_of};
 use agc_plan::{Address, Request};
 
 /// The cost of a job at an address, and what the job does when that is used up: it makes some of
@@ -50,18 +51,16 @@ pub struct AgcEvent {
 }
 
 /// A timetable whose rows lie in memory of a caller's own: an address out of its range counts as
-/// 16383, numbers that are no request as a change of job, which is no step of a job. For C each
-/// list is a pointer and then a length.
+/// 16383, numbers that are no request as a change of job, which is no step of a job, and of two
+/// rows for one time, or one address, the first counts. For C each list is a pointer and then a
+/// length.
 #[repr(C)]
 #[derive(Clone, Copy)]
 pub struct AgcTimetable<'a> {
     /// How many centiseconds it lasts.
     pub lasts: u32,
-    /// Stolen time.
     pub stolen: &'a [Stolen],
-    /// The costs of jobs.
     pub costs: &'a [AgcCost],
-    /// The events.
     pub events: &'a [AgcEvent],
     /// The requests of events and jobs.
     pub requests: &'a [AgcRequest],
@@ -81,10 +80,7 @@ fn last_address() -> Address
 fn address_for(number: u32) -> Address
     ensures { result ≡ address_for number }
 {
-    match address(number) {
-        Some(at) => at,
-        None => last_address(),
-    }
+    address(number).unwrap_or(last_address())
 }
 
 /// The way in which a job leaves.
@@ -102,10 +98,7 @@ fn then_of(number: u32) -> Then
 fn distances_of(row: &AgcEvent) -> Times
     ensures { result ≡ distances_from_c row.now }
 {
-    match Times::repeated(row.at, row.every, row.until) {
-        Some(times) => times,
-        None => Times::once(row.at),
-    }
+    Times::repeated(row.at, row.every, row.until).unwrap_or(Times::once(row.at))
 }
 
 /// When an event comes.
@@ -150,10 +143,7 @@ pub(crate) fn event_after(row: &AgcEvent, alarm: u32, time: u32) -> AgcEvent
 fn request_for(numbers: &AgcRequest) -> Request
     ensures { result ≡ request_for numbers.now }
 {
-    match request_of(numbers) {
-        Some(request) => request,
-        None => Request::Change,
-    }
+    request_of(numbers).unwrap_or(Request::Change)
 }
 
 /// `count` of the requests, from the first on.

@@ -2,16 +2,15 @@
 ghost use Rattle.std.specs.Prelude.{◌≡◌};
 ghost use Rattle.libagc.specs.Arithmetic.{sum_to_c, negative_to_c, value_to_c};
 
+use crate::fault::Fault;
+use crate::numbers;
 use crate::reply::AgcNumber;
-use agc_image::Fault;
 
 /// The sum of two words: a code, the fifteen bits, and whether it overflows.
 #[repr(C)]
 #[derive(Clone, Copy)]
 pub struct AgcSum {
-    /// 0, or 5 if one of both is no word.
     pub code: u32,
-    /// The bits of the sum.
     pub bits: u32,
     /// Whether the exact sum is beyond -16383 to 16383.
     pub overflow: bool,
@@ -21,9 +20,7 @@ pub struct AgcSum {
 #[repr(C)]
 #[derive(Clone, Copy)]
 pub struct AgcValue {
-    /// 0, or 5 if it is no word.
     pub code: u32,
-    /// The value, -16383 to 16383.
     pub value: i32,
 }
 
@@ -33,7 +30,7 @@ pub struct AgcValue {
 pub extern "C" fn agc_add(a: u32, b: u32) -> AgcSum
     ensures { result ≡ sum_to_c a b }
 {
-    match (agc_image::word(a), agc_image::word(b)) {
+    match (numbers::word(a), numbers::word(b)) {
         (Some(first), Some(second)) => {
             let (sum, overflow) = first.add(second);
             AgcSum {
@@ -56,7 +53,7 @@ pub extern "C" fn agc_add(a: u32, b: u32) -> AgcSum
 pub extern "C" fn agc_negative(word: u32) -> AgcNumber
     ensures { result ≡ negative_to_c word }
 {
-    match agc_image::word(word) {
+    match numbers::word(word) {
         Some(word) => AgcNumber {
             code: 0,
             number: u32::from(word.neg().bits()),
@@ -71,7 +68,7 @@ pub extern "C" fn agc_negative(word: u32) -> AgcNumber
 pub extern "C" fn agc_value(word: u32) -> AgcValue
     ensures { result ≡ value_to_c word }
 {
-    match agc_image::word(word) {
+    match numbers::word(word) {
         Some(word) => AgcValue {
             code: 0,
             value: word.value(),

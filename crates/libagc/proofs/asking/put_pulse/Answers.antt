@@ -1,5 +1,5 @@
 use Rattle.std.proofs.Common.{ap, sym, ◌∙◌, ℕ, ◌∷◌, []}
-use Rattle.agc_image.specs.declared.requests.AgcRequest.{AgcRequest}
+use Rattle.libagc.specs.declared.reading.AgcRequest.{AgcRequest}
 use Rattle.libagc.specs.Asking.{pulse_to_c}
 use Rattle.libagc.proofs.Pulsing.{first_set}
 use Rattle.libagc.proofs.asking.put_pulse.Goals as goal

@@ -1,11 +1,9 @@
 use Rattle.std.proofs.Common.{◌≡◌, ℕ, suc, ap, sym, ◌∙◌, ◌+◌, ◌++◌, ◌∷◌, List, take, drop, arith}
 use Rattle.std.proofs.Math.ListN.{get_or}
 use Rattle.std.proofs.Math.Seq.{drop-cons}
-use Rattle.agc_image.specs.declared.requests.AgcRequest.{AgcRequest}
-use Rattle.agc_image.specs.Lacking.{is_action}
-use Rattle.libagc.specs.Asking.{are_actions}
+use Rattle.libagc.specs.declared.reading.AgcRequest.{AgcRequest}
 use Rattle.libagc.specs.Spelled.{request_with}
-use Rattle.libagc.proofs.Pulsing.{asks, put_on, drop_on, others_too}
+use Rattle.libagc.proofs.Pulsing.{asks, put_on, drop_on}
 use Rattle.libagc.proofs.asking.put_requests.Goals as goal
 
 pub loop-action-preserved : goal.loop-action-preserved
@@ -18,6 +16,5 @@ loop-action-preserved c =
     record {
       put = ap (λ (these : List AgcRequest). these ++ asks others) c.put_request-count.ensures.list ∙ put_on before action others (asks c.args.actions.now) (ap (λ (rest : List AgcRequest). before ++ asks rest) (sym here) ∙ c.loop-action.invariant.put);
       rest = c.put_request-count.ensures.rest ∙ drop_on c.loop-action.count c.put_request-count.result c.loop-action.requests c.args.requests.now c.put_request-count.ensures.least c.loop-action.invariant.rest;
-      left = others_too (is_action action) (are_actions others) (ap are_actions (sym here) ∙ c.loop-action.invariant.left);
       most = omega (arith, c.put_request-count.ensures.most, c.loop-action.invariant.most);
     }

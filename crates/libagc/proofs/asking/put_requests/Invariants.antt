@@ -1,5 +1,4 @@
-use Rattle.std.proofs.Common.{◌≡◌, ◌≤◌, ◌++◌, take, drop, true}
-use Rattle.libagc.specs.Asking.{are_actions}
+use Rattle.std.proofs.Common.{◌≡◌, ◌≤◌, ◌++◌, take, drop}
 use Rattle.libagc.proofs.Pulsing.{asks}
 use Rattle.libagc.proofs.asking.put_requests.Given as goal
 
@@ -7,6 +6,5 @@ abbrev pub invariant-loop-action : goal.invariant-loop-action
 invariant-loop-action l = record {
   put : take l.count l.requests ++ asks (drop l.action-index l.actions) ≡ asks l.actions;
   rest : drop l.count l.requests ≡ drop l.count l.fn.requests;
-  left : are_actions (drop l.action-index l.actions) ≡ true;
   most : l.count ≤ l.action-index;
 }

@@ -37,7 +37,7 @@ returns-clause-served c = λ sets valid opened.
       reply = did.result.0;
       fired = did.new.fired;
       action = did.result.1;
-      reply_to_c = c.of.ensures.reply
+      told = c.of.ensures.reply
           ∙ ap (λ (n : ℕ). step_to_c did.result.0 n c.action_to_c.result) c.len.ensures.value
           ∙ ap (λ (n : ℕ). step_to_c did.result.0 (length did.new.fired) n) c.action_to_c.ensures;
       handed_out = c.hand_out.ensures;

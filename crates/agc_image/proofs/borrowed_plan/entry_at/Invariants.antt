@@ -1,7 +1,0 @@
-use Rattle.std.proofs.Common.{◌≡◌, drop}
-use Rattle.agc_plan.specs.Plans.{entry_at}
-use Rattle.agc_image.specs.Written.{entries_from_c}
-use Rattle.agc_image.proofs.borrowed_plan.entry_at.Given as goal
-
-abbrev pub invariant-loop-entry : goal.invariant-loop-entry
-invariant-loop-entry l = entry_at (entries_from_c (drop l.entry-index l.entries)) l.group l.phase ≡ entry_at (entries_from_c l.entries) l.group l.phase
