@@ -360,7 +360,7 @@ def saved_too_long(hostile, path):
     player = Player()
     player.ask("tick 110000")
     wrote = player.ask(f"save {path}")
-    wanted = rf"{re.escape(path)}: not written: it would have ([0-9]+) bytes, and agc reads 1048576"
+    wanted = rf"\"{re.escape(path)}\": not written: it would have ([0-9]+) bytes, and agc reads 1048576"
     found = len(wrote) == 1 and re.fullmatch(wanted, wrote[0])
     is_right = found and int(found[1]) > 1100000 and not os.path.exists(path) and player.end() == (0, b"")
     hostile.runs += 1
@@ -384,7 +384,7 @@ def played_at_random(hostile, dice, saved, example):
     ending = player.end()
     rows = ended([WATCH, "trace", saved])[1].splitlines()
     hostile.runs += 1
-    wanted = rf"{re.escape(saved)}: a bench of {'[0-9]+' if example else len(asked)} requests"
+    wanted = rf"\"{re.escape(saved)}\": a bench of {'[0-9]+' if example else len(asked)} requests"
     is_told = ending == (0, b"") and len(wrote) == 1 and re.fullmatch(wanted, wrote[0])
     hostile.expect(f"play, {example}: {ending}, {wrote}", is_told)
     lines = [line for it in told for line in it]

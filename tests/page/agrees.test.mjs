@@ -47,17 +47,17 @@ function sweptBy(bench) {
 /** A scenario in which its first job is the most urgent, with some stolen time. @param {import("../../web/bench.js").Bench} bench @param {number} steal */
 const moved = (bench, steal) => ({ ...bench, steal, ...withPriority(bench, bench.job[0]?.at ?? "04000", 31) });
 
-/** Hundredths of a centisecond, as `agc_watch` writes them. @param {number} hundredths */
-const seconds = (hundredths) => (Math.floor((hundredths + 50) / 100) / 100).toFixed(2);
+/** Hundredths of a centisecond, as `agc_watch` writes them: to the nearest, or with this many added. @param {number} hundredths */
+const seconds = (hundredths, added = 50) => (Math.floor((hundredths + added) / 100) / 100).toFixed(2);
 
 /** The lines of a table without the names of jobs, whose commas don't matter: they come first. @param {string} text */
 const rowsOf = (text) => text.trim().split("\n").map((it) => it.replace(/^"[^"]*"/, "").split(","));
 
 /** A row of the table of jobs, as those columns. @param {import("../../web/jobs.js").JobRow} row */
 function cellsOf({ began, ended, lost, alive, least, mean, most, share, deadline, missed, firstMissed }) {
-  const responses = [least, mean, most].map((it) => (ended === 0 ? "" : seconds(it)));
+  const responses = ended === 0 ? ["", "", ""] : [seconds(least), seconds(mean), seconds(most, 99)];
   return [began, ended, lost, alive, ...responses, (Math.floor(1000 * share + 0.5 + EXACT) / 10).toFixed(1),
-    deadline === null ? "" : missed, firstMissed === null ? "" : seconds(firstMissed)].join(",");
+    deadline === null ? "" : missed, firstMissed === null ? "" : seconds(firstMissed, 100)].join(",");
 }
 
 /** What the page has of a document; null where it isn't one. @param {string} text */
@@ -97,7 +97,7 @@ test("the page computes what agc_watch does", { skip }, async () => {
     const [head, ...rows] = rowsOf(others[k].text);
     const times = rows.map((row) => row[head.indexOf("first_missed")]).filter((it) => it !== "").sort((one, other) => Number(one) - Number(other));
     const { missed } = first(bench);
-    assert.equal(missed === null ? undefined : seconds(missed.due), times[0], writeBench(bench));
+    assert.equal(missed === null ? undefined : seconds(missed.due, 100), times[0], writeBench(bench));
     late += Number(missed !== null);
   }
   assert.ok(late > COUNT / 10, `only ${late} missed deadlines`);

@@ -28,7 +28,7 @@ pub record FindingView : Type 0 where
 abbrev pub refusal_of : Problem → BenchFault
 refusal_of wrong.NotToml = refusal.NotToml
 refusal_of wrong.NoQuotes = refusal.NotToml
-refusal_of wrong.NoKeys = refusal.NotToml
+refusal_of wrong.KeyTwice = refusal.NotToml
 refusal_of (wrong.Key fault) = refusal.Key
 refusal_of (wrong.Text form) = refusal.Line
 refusal_of wrong.TaskTwice = refusal.TaskTwice

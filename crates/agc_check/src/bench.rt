@@ -1,12 +1,12 @@
 //! The sentences about findings in a bench.
 use crate::finding::Findings;
-use crate::line::{LineFault, fault_of};
+use crate::line::{LineFault, fault_of, is_like_script};
 use crate::line_form::{
     ACTIONS, JOBS, LEAVINGS, LISTINGS, LineForm, LineWord, NO_REQUEST, REQUESTS, STEPS,
 };
 use crate::messages::{
-    MOST_TOLD, Message, NONE, front_of, message_of, plain, put_message, put_more, put_quoted,
-    put_where,
+    MOST_TOLD, Message, NONE, NamedText, front_of, message_of, plain, put_message, put_more,
+    put_quoted, put_where,
 };
 use crate::names::{HasName, meant_by, with_name};
 use crate::problem::Problem;
@@ -53,8 +53,7 @@ const NO_SEED: &str = "a cost \"from\" .. \"to\" needs the key \"seed\" in the s
 
 const BELOW: &str = "no event above this one has that name; event {}, below, has it";
 
-const NO_KEYS: &str =
-    "this looks like a script: trace, page, peaks, jobs and check read one with --script";
+const OF_SCRIPT: &str = "this looks like a script, not a bench: add --script";
 
 const NO_ACTION: &str = "an action is nothing, or begins with novac, findvac, rouse or list";
 
@@ -184,6 +183,10 @@ fn fault_message<'a>(wrong: Problem, text: &'a str) -> Message<'a> {
     plain(match wrong {
         Problem::Text(form) => return expected_form(form, text),
         Problem::NotToml => return message_of("not TOML: {}", Text(text), NONE),
+        Problem::KeyTwice => {
+            let (front, dots) = front_of(text);
+            return message_of("not TOML: the key \"{}{}\" is there twice", front, dots);
+        }
         Problem::Key(KeyFault::Unknown(level)) => return unknown_key_message(level, text),
         Problem::Key(KeyFault::Value(key)) => return expected_value(key),
         Problem::Key(KeyFault::Missing(key)) => {
@@ -202,7 +205,6 @@ fn fault_message<'a>(wrong: Problem, text: &'a str) -> Message<'a> {
         Problem::Key(KeyFault::LeastAboveMost) => "\"from\" may not be above \"to\"",
         Problem::Key(KeyFault::NoSeed) => NO_SEED,
         Problem::NoQuotes => "not TOML: five octal digits need quotes",
-        Problem::NoKeys => NO_KEYS,
         Problem::TaskTwice => "an earlier task has the same at and bank",
         Problem::PhaseTwice => "an earlier phase has the same group and phase",
         Problem::TooManyAreas => "each of the six groups has a job that wants a VAC area",
@@ -224,42 +226,60 @@ fn item_of(key: Key) -> Field<'static> {
     })
 }
 
-/// The sentence for a place, with a colon unless it is the whole document.
-pub(crate) fn location_message(place: Location) -> Message<'static> {
+/// Adds a table of a key's array, by its name or else its number.
+fn put_table(out: &mut Buffer, key: Key, number: u64, name: Option<&str>) {
+    out.text(key.name());
+    out.text(" ");
+    match name {
+        None => out.add(Number(number)),
+        Some(name) => out.add(front_of(name).0),
+    }
+}
+
+/// Adds a place, with a colon unless it is the whole document. If it is in a table that has a name,
+/// that is said in place of the table's number.
+pub(crate) fn put_location(out: &mut Buffer, place: Location, name: Option<&str>) {
     match place {
-        Location::Whole => plain(""),
-        Location::Value(key) => message_of("{}: ", name_of(key), NONE),
-        Location::Table(key, k) => message_of("{} {}: ", name_of(key), Number(k)),
-        Location::Item(key, k) => {
-            let fields = [name_of(key), item_of(key), Number(k), NONE, NONE];
-            ("{}, {} {}: ", fields)
+        Location::Whole => {}
+        Location::Value(key) => out.put("{}: ", &[name_of(key)]),
+        Location::Item(key, k) => out.put("{}, {} {}: ", &[name_of(key), item_of(key), Number(k)]),
+        Location::Table(key, k) => {
+            put_table(out, key, k, name);
+            out.text(": ");
         }
         Location::Field(key, k, of) => {
-            let fields = [name_of(key), Number(k), name_of(of), NONE, NONE];
-            ("{} {}, {}: ", fields)
+            put_table(out, key, k, name);
+            out.put(", {}: ", &[name_of(of)]);
         }
         Location::FieldItem(key, k, of, n) => {
-            let fields = [name_of(key), Number(k), item_of(of), Number(n), NONE];
-            ("{} {}, {} {}: ", fields)
+            put_table(out, key, k, name);
+            out.put(", {} {}: ", &[item_of(of), Number(n)]);
         }
         Location::Subfield(key, k, of, at) => {
-            let fields = [name_of(key), Number(k), name_of(of), name_of(at), NONE];
-            ("{} {}, {}, {}: ", fields)
+            put_table(out, key, k, name);
+            out.put(", {}, {}: ", &[name_of(of), name_of(at)]);
         }
     }
 }
 
-/// Adds a line for each of the first twenty findings, which begins with this text, and one that
-/// counts the others.
-pub fn put_bench_messages(out: &mut Buffer, before_line: &str, findings: &Findings) {
+/// Adds a line for each of the first twenty findings of a document, and one that counts the others.
+pub fn put_bench_messages(out: &mut Buffer, document: NamedText<'_>, findings: &Findings) {
     for finding in findings.list.iter().take(MOST_TOLD) {
         let (wrong, text) = (finding.wrong, finding.text.as_str());
-        put_where(out, before_line, finding.line, "");
-        put_message(out, location_message(finding.place));
+        put_where(out, document.before_line, finding.line, "");
+        put_location(out, finding.place, None);
         if let Problem::Text(_) | Problem::Key(KeyFault::NoneAbove(_)) = wrong {
             put_quoted(out, text);
         }
-        put_message(out, fault_message(wrong, text));
+        put_message(
+            out,
+            match wrong {
+                Problem::NotToml if document.takes_script && is_like_script(document.text) => {
+                    plain(OF_SCRIPT)
+                }
+                _ => fault_message(wrong, text),
+            },
+        );
         put_with_quotes(out, wrong, text);
         out.text("\n");
     }

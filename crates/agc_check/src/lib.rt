@@ -27,7 +27,7 @@ pub use explored::{ExploredBench, Flags, explored_findings};
 pub use finding::{Finding, Findings};
 pub use line::LineFault;
 pub use line_form::{LineForm, LineWord};
-pub use messages::NamedText;
+pub use messages::{NamedText, put_quoted};
 pub use problem::Problem;
 pub use reading::scenario_findings;
 pub use run_counts::{RunCounts, run_subject};

@@ -30,6 +30,8 @@ const BYTE_ORDER_MARK: &str = "it begins with a byte order mark, which a script 
 
 const OF_BENCH: &str = "this looks like a bench, not a script: leave out --script";
 
+const ALONE: &str = "nothing may follow \"{}\"";
+
 const MEANT: &str = "its first word is unknown; did you mean \"{}\"?";
 
 /// The fault of a line of this kind.
@@ -70,6 +72,13 @@ pub(crate) fn fault_of(kinds: &[LineForm], text: &str) -> LineFault {
     }
 }
 
+/// Whether a text has no sign of a key, and begins with the word of a request, or nearly.
+pub(crate) fn is_like_script(text: &str) -> bool {
+    let word = text.split_whitespace().next().unwrap_or("");
+    let fault = fault_of(&REQUESTS, word);
+    !text.contains('=') && !matches!(fault, LineFault::Empty | LineFault::Unknown(None))
+}
+
 /// The fault of a line of a script that is no request.
 pub(crate) fn script_fault(text: &str) -> LineFault {
     match fault_of(&REQUESTS, text) {
@@ -91,6 +100,7 @@ impl LineFault {
             LineFault::Capitals(kind) => ("write \"{}\" in lowercase", kind.name()),
             LineFault::Unknown(None) => (NO_REQUEST, ""),
             LineFault::Unknown(Some(kind)) => (MEANT, kind.name()),
+            LineFault::Form(kind) if kind.form() == kind.name() => (ALONE, kind.name()),
             LineFault::Form(kind) => ("it has the form \"{}\", with single spaces", kind.form()),
             LineFault::Operand(part) => ("{}", part.spelling()),
         };

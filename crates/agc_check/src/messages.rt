@@ -2,12 +2,13 @@
 use agc_text::Field::{Number, Text};
 use agc_text::{Buffer, Field};
 
-/// A text that was read, and what a message about it has before the number of a line: `FILE:` for
-/// the text of a file.
+/// A text that was read; what a message about it has before the number of a line, `FILE:` for the
+/// text of a file; and whether it may be a script if the command line says so.
 #[derive(Clone, Copy)]
 pub struct NamedText<'a> {
     pub before_line: &'a str,
     pub text: &'a str,
+    pub takes_script: bool,
 }
 
 /// A text with gaps `{}`, and the fields for them in order; behind the last gap nothing but `NONE`.
@@ -74,7 +75,7 @@ pub(crate) fn front_of(text: &str) -> (Field<'_>, Field<'static>) {
 }
 
 /// Adds the front of a text in quotes, and a colon.
-pub(crate) fn put_quoted(out: &mut Buffer, text: &str) {
+pub fn put_quoted(out: &mut Buffer, text: &str) {
     let (front, dots) = front_of(text);
     out.put("\"{}{}\": ", &[front, dots]);
 }

@@ -8,8 +8,8 @@ pub enum Problem {
     NotToml,
     /// The text is no TOML document, because this word of it, five octal digits, has no quotes.
     NoQuotes,
-    /// The text is no TOML document, and has no sign of a key, as if it were a script.
-    NoKeys,
+    /// The text is no TOML document, because a table has two keys with this name.
+    KeyTwice,
     /// A key, or the kind, range or length of its value.
     Key(KeyFault),
     /// The finding's text isn't of this form.

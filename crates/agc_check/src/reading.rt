@@ -62,21 +62,30 @@ fn is_octal_five(text: &str) -> bool {
     text.len() == 5 && text.bytes().all(|byte| matches!(byte, b'0'..=b'7'))
 }
 
+/// The parser's words for a key that a table has twice.
+const TWICE: &str = "duplicate key";
+
+/// The key in front of a value.
+fn key_of(text: &str) -> &str {
+    let (key, _value) = text.split_once('=').unwrap_or((text, ""));
+    key.trim_ascii_end().trim_matches('"')
+}
+
 /// Why a text is no TOML document, and the byte at which that shows.
 fn wrong_document<'a>(text: &'a str, error: &'a Error) -> (Remark<'a>, usize)
     ensures { refusal_of result.0.wrong ≡ refusal.NotToml }
 {
     let (start, end) = error.span().map_or((0, 0), |span| (span.start, span.end));
     let word = text.get(start..end).unwrap_or("");
-    let (text, wrong, at) = if !text.contains('=') {
-        ("", Problem::NoKeys, 0)
-    } else if is_octal_five(word) {
-        (word, Problem::NoQuotes, start)
+    let (text, wrong) = if is_octal_five(word) {
+        (word, Problem::NoQuotes)
+    } else if error.message() == TWICE {
+        (key_of(word), Problem::KeyTwice)
     } else {
-        (error.message(), Problem::NotToml, start)
+        (error.message(), Problem::NotToml)
     };
     let place = Location::Whole;
-    (Remark { place, text, wrong }, at)
+    (Remark { place, text, wrong }, start)
 }
 
 /// The finding of a text that is no TOML document.

@@ -9,11 +9,43 @@ use agc_text::Field::{Bytes, Octal, Text};
 use std::alloc::Global;
 use std::io::Write;
 
+/// A part of the differences: of the documents' keys, the runs' totals, or the jobs of a name. In
+/// text its first row comes below a line with its title.
+#[derive(Clone, Copy)]
+pub(crate) struct Part<'a> {
+    kind: &'static str,
+    name: Field<'a>,
+    has_title: bool,
+}
+
+impl<'a> Part<'a> {
+    /// A part without rows.
+    pub(crate) fn new(kind: &'static str, name: Field<'a>) -> Part<'a> {
+        Part {
+            kind,
+            name,
+            has_title: false,
+        }
+    }
+
+    /// Begins a row.
+    pub(crate) fn begin_row(&mut self, table: &mut Table) {
+        let title = [Text(self.kind), self.name];
+        if !table.is_text() {
+            table.row.text.put("{}{}", &title);
+            table.row.end(left("part", "part", 0));
+        } else if !self.has_title {
+            table.lines.put("{}{}\n", &title);
+            self.has_title = true;
+        }
+    }
+}
+
 /// The rows of both documents: of their totals, or of jobs that are called the same.
 #[derive(Clone, Copy)]
 struct Pair<'a> {
-    one: Option<&'a Row>,
-    other: Option<&'a Row>,
+    before: Option<&'a Row>,
+    after: Option<&'a Row>,
 }
 
 /// The text of a row's cell at a place; a dash if there is no row.
@@ -21,43 +53,30 @@ fn text_at(row: Option<&Row>, place: usize) -> &[u8] {
     row.map_or(b"-".as_slice(), |row| row.text_of(place))
 }
 
-/// The name or address of jobs.
-fn name_field(jobs: &JobsSummary) -> Field<'_> {
-    jobs.name
-        .as_ref()
-        .map_or(Octal(jobs.at), |name| Text(name.as_str()))
+/// Adds the name of what differs to a row.
+pub(crate) fn end_key(table: &mut Table) {
+    table.row.end(left("", "key", 26));
 }
 
-/// Adds the cells of a row: the jobs that it is about, the value's name, and the values of both
-/// documents. In text the jobs have a line of their own above.
-fn fill(table: &mut Table, jobs: Option<Field<'_>>, name: &[u8], (pair, place): (Pair<'_>, usize)) {
-    if table.is_text() {
-        table.row.text.text(if jobs.is_some() { "  " } else { "" });
-    } else {
-        table.row.option(left("job", "job", 0), jobs);
-    }
-    table.row.cell(left("", "value", 24), Bytes(name));
-    table.row.copy(right("first", "first", 10), pair.one, place);
-    table
-        .row
-        .copy(right("second", "second", 10), pair.other, place);
+/// Adds the values of both documents at a place to a row, after the value's name.
+fn fill(table: &mut Table, pair: Pair<'_>, place: usize) {
+    end_key(table);
+    let (before, after) = (right("before", "before", 10), right("after", "after", 10));
+    table.row.copy(before, pair.before, place);
+    table.row.copy(after, pair.after, place);
 }
 
-/// Adds a row for each value that differs. In text a line with the jobs' name comes first.
-fn put(table: &mut Table, jobs: Option<Field<'_>>, names: &Row, pair: Pair<'_>) {
-    let mut has_heading = jobs.is_none() || !table.is_text();
+/// Adds a row for each value that differs.
+fn put(table: &mut Table, mut part: Part<'_>, names: &Row, pair: Pair<'_>) {
     for place in 0..names.len() {
-        if text_at(pair.one, place) != text_at(pair.other, place) {
-            if let (false, Some(jobs)) = (has_heading, jobs) {
-                table.lines.put("job {}\n", &[jobs]);
-                has_heading = true;
-            }
-            let name = if table.is_text() {
-                names.name_of(place)
+        if text_at(pair.before, place) != text_at(pair.after, place) {
+            part.begin_row(table);
+            if table.is_text() {
+                table.row.text.fill("  ", Bytes(names.name_of(place)));
             } else {
-                names.key_of(place)
-            };
-            fill(table, jobs, name, (pair, place));
+                table.row.text.add(Bytes(names.key_of(place)));
+            }
+            fill(table, pair, place);
             table.end_row();
         }
     }
@@ -73,22 +92,29 @@ fn called_as<'a>(all: &'a [JobsSummary], jobs: &JobsSummary) -> Option<&'a JobsS
     }
 }
 
+/// Adds what differs of jobs.
+fn put_jobs(table: &mut Table, jobs: &JobsSummary, pair: Pair<'_>) {
+    let name = jobs.name.as_ref();
+    let name = name.map_or(Octal(jobs.at), |name| Text(name.as_str()));
+    put(table, Part::new("job ", name), &jobs.row, pair);
+}
+
 /// Adds the jobs that differ, those of the first document first.
-fn put_all_jobs(table: &mut Table, one: &[JobsSummary], other: &[JobsSummary]) {
-    for jobs in one {
+fn put_all_jobs(table: &mut Table, before: &[JobsSummary], after: &[JobsSummary]) {
+    for jobs in before {
         let pair = Pair {
-            one: Some(&jobs.row),
-            other: called_as(other, jobs).map(|jobs| &jobs.row),
+            before: Some(&jobs.row),
+            after: called_as(after, jobs).map(|jobs| &jobs.row),
         };
-        put(table, Some(name_field(jobs)), &jobs.row, pair);
+        put_jobs(table, jobs, pair);
     }
-    for jobs in other {
-        if called_as(one, jobs).is_none() {
+    for jobs in after {
+        if called_as(before, jobs).is_none() {
             let pair = Pair {
-                one: None,
-                other: Some(&jobs.row),
+                before: None,
+                after: Some(&jobs.row),
             };
-            put(table, Some(name_field(jobs)), &jobs.row, pair);
+            put_jobs(table, jobs, pair);
         }
     }
 }
@@ -104,22 +130,26 @@ fn put_all_jobs(table: &mut Table, one: &[JobsSummary], other: &[JobsSummary]) {
 /// has no room.
 pub fn put_differences<W: Write>(
     alloc: Global,
-    [(text, one), (other_text, other)]: [(&str, &RunSummary); 2],
+    [(text, before), (other_text, after)]: [(&str, &RunSummary); 2],
     form: TableForm,
     writer: &mut W,
 ) -> Result<bool, RunFault> {
     let mut table = Table::new(alloc, form)?;
     let totals = Pair {
-        one: Some(&one.totals),
-        other: Some(&other.totals),
+        before: Some(&before.totals),
+        after: Some(&after.totals),
     };
-    fill(&mut table, None, b"", (totals, 0));
+    if !table.is_text() {
+        table.row.cell(left("part", "part", 0), Text(""));
+    }
+    fill(&mut table, totals, 0);
     table.end_heading();
     let empty = table.lines.as_bytes().len();
     put_keys(alloc, &mut table, text, other_text)?;
     let heading = table.lines.as_bytes().len();
-    put(&mut table, None, &one.totals, totals);
-    put_all_jobs(&mut table, one.jobs.as_slice(), other.jobs.as_slice());
+    let run = Part::new("run", Text(""));
+    put(&mut table, run, &before.totals, totals);
+    put_all_jobs(&mut table, before.jobs.as_slice(), after.jobs.as_slice());
     let differs = table.lines.as_bytes().len() > heading;
     if !differs && table.is_text() {
         if heading == empty {

@@ -1,7 +1,7 @@
 //! The table of a run's eras.
-use crate::era::{Boundary, EraStatistics, Peak};
+use crate::era::{Boundary, EraStatistics};
 use crate::jobs_rows::seconds;
-use agc_table::{Column, Row, Table, left, right};
+use agc_table::{Table, left, right};
 use agc_text::Field::{Number, Seconds, Text};
 use agc_text::alarm_code;
 
@@ -34,12 +34,6 @@ fn end_text(boundary: Boundary) -> &'static str {
     }
 }
 
-/// Adds a peak and since when it was there to a row.
-fn fill_peak(peak: Peak, row: &mut Row, count: Column<'_>, since: Column<'_>) {
-    row.cell(count, Number(peak.count));
-    row.cell(since, Seconds(peak.since));
-}
-
 impl EraRow {
     /// How many centiseconds it lasts.
     fn lasts(&self) -> u64 {
@@ -62,25 +56,18 @@ impl EraRow {
         row.cell(right("begins", "begins", 8), Seconds(era.began));
         row.cell(left("began by", "began_by", 8), Text(begin_text(self.by)));
         row.cell(right("lasts", "lasts", 8), Seconds(self.lasts()));
-        row.cell(right("requests", "requests", 8), Number(era.requests));
+        row.cell(right("served", "served", 8), Number(era.requests));
         row.cell(right("began", "began", 5), Number(era.jobs_begun));
         row.cell(right("ended", "ended", 5), Number(era.jobs_ended));
         row.below();
-        let (count, since) = (
-            right("sets", "most_sets", 5),
-            right("since", "sets_since", 7),
-        );
-        fill_peak(era.sets, row, count, since);
-        let (count, since) = (
-            right("areas", "most_areas", 5),
-            right("since", "areas_since", 7),
-        );
-        fill_peak(era.areas, row, count, since);
-        let (count, since) = (
-            right("tasks", "most_tasks", 5),
-            right("since", "tasks_since", 7),
-        );
-        fill_peak(era.tasks, row, count, since);
+        row.cell(right("most sets", "most_sets", 9), Number(era.sets.count));
+        row.cell(right("since", "sets_since", 7), Seconds(era.sets.since));
+        let areas = right("most areas", "most_areas", 10);
+        row.cell(areas, Number(era.areas.count));
+        row.cell(right("since", "areas_since", 7), Seconds(era.areas.since));
+        let tasks = right("most tasks", "most_tasks", 10);
+        row.cell(tasks, Number(era.tasks.count));
+        row.cell(right("since", "tasks_since", 7), Seconds(era.tasks.since));
         let (no_job, lost_column) = (right("no job", "no_job", 6), right("lost", "lost", 6));
         if has_time {
             row.percent(no_job, self.idle_percent());

@@ -8,6 +8,16 @@ use agc_text::Field::Number;
 use std::alloc::Global;
 use std::io::Write;
 
+/// The outcome of a search.
+#[derive(Clone, Copy)]
+pub enum FindOutcome {
+    /// No value raises an alarm.
+    None,
+    /// One does. If a smaller one that wasn't tried may raise one, too, because a larger one raises
+    /// none, it is this.
+    Found(Option<u64>),
+}
+
 /// A value that was tried, by its place from 0, and the peaks of its run.
 #[derive(Clone, Copy)]
 struct Trial {
@@ -100,18 +110,19 @@ impl Search<'_> {
         Ok(())
     }
 
-    /// The least value, above the one that was found, that was tried and raises no alarm.
+    /// The least value, above the one that was found, that was tried and raises no alarm, if a
+    /// smaller value than that wasn't tried.
     fn exception(&self, found: u64) -> Option<u64> {
-        for trial in self.trials.iter() {
-            if trial.place > found && trial.peaks.alarms == 0 {
-                return Some(self.value(trial.place));
-            }
+        let smaller = self.trials.iter().take_while(|trial| trial.place < found);
+        if smaller.count() as u64 == found {
+            return None;
         }
-        None
+        let is_quiet = |trial: &&Trial| trial.place > found && trial.peaks.alarms == 0;
+        let trial = self.trials.iter().find(is_quiet)?;
+        Some(self.value(trial.place))
     }
 
-    /// Adds how many values were tried, the one that was found, and whether a larger one raises no
-    /// alarm.
+    /// Adds how many values were tried, and the one that was found.
     fn put_summary(&mut self, found: Option<u64>) {
         let tried = Number(self.trials.len() as u64);
         let Some(found) = found else {
@@ -124,21 +135,14 @@ impl Search<'_> {
             "values tried: {}; the smallest that raises an alarm: {}\n",
             &fields,
         );
-        if let Some(larger) = self.exception(found) {
-            self.sweep.table.lines.put(
-                "warning: {} is larger and raises none, so there may be a smaller one\n",
-                &[Number(larger)],
-            );
-        }
     }
 
-    /// Looks for the smallest value that raises an alarm, and writes it. Returns whether there is
-    /// one.
+    /// Looks for the smallest value that raises an alarm, and writes it.
     fn find<W: Write>(
         &mut self,
         scenario: &mut Scenario,
         writer: &mut W,
-    ) -> Result<bool, RunFault> {
+    ) -> Result<FindOutcome, RunFault> {
         let mut found = self.first_raising(scenario)?;
         if let Some(raising) = found {
             let least = self.bisect(scenario, raising)?;
@@ -152,14 +156,17 @@ impl Search<'_> {
             self.put_summary(found);
         }
         self.sweep.table.send(writer)?;
-        Ok(found.is_some())
+        Ok(match found {
+            None => FindOutcome::None,
+            Some(found) => FindOutcome::Found(self.exception(found)),
+        })
     }
 }
 
 /// Looks for the smallest value of a number with which a scenario raises an alarm, by halving, and
 /// tries a few larger ones. Writes the rows of the values that were tried, in order, as in a
-/// sweep, and then, in a text, what was found. Returns whether a value was. The number keeps the
-/// value that was tried last. The writer is not flushed.
+/// sweep, and then, in a text, what was found. The number keeps the value that was tried last. The
+/// writer is not flushed.
 ///
 /// # Errors
 ///
@@ -171,7 +178,7 @@ pub fn find_alarm<W: Write>(
     axes: &[Axis<'_>; 1],
     form: TableForm,
     writer: &mut W,
-) -> Result<bool, RunFault> {
+) -> Result<FindOutcome, RunFault> {
     let sweep = SweepWriter::new(alloc, axes, form)?;
     let trials = Vec::new(alloc);
     let mut search = Search { sweep, trials };

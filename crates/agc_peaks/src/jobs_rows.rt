@@ -3,13 +3,18 @@ use crate::address_statistics::AddressStatistics;
 use crate::era_time::EraTime;
 use crate::job_statistics::JobStatistics;
 use agc_scenario::{TimedJob, Timing};
-use agc_table::{Row, Table, TableForm, left, right};
+use agc_table::{Row, Table, TableForm, left, right, width_of};
 use agc_text::Field;
 use agc_text::Field::{Number, Octal, Seconds, Text};
 
 /// Hundredths of a centisecond as seconds, to the nearest hundredth.
 pub(crate) fn seconds(hundredths: u64) -> Field<'static> {
     Seconds(hundredths.saturating_add(50) / 100)
+}
+
+/// Hundredths of a centisecond as seconds, rounded up to a hundredth.
+fn seconds_up(hundredths: u64) -> Field<'static> {
+    Seconds(hundredths.saturating_add(99) / 100)
 }
 
 /// Means over the jobs of an address, in hundredths of a centisecond: how long they took, and how
@@ -51,8 +56,9 @@ fn percentile(times: &[u64], percent: usize) -> Option<u64> {
 }
 
 /// Adds to a row how many jobs of an address there were, how long they took, and how much of it
-/// they computed, if that is known, waited and slept.
-pub(crate) fn fill_times(row: &mut Row, jobs: &AddressStatistics, has_time: bool) {
+/// they computed, waited and slept, and their share of the time that the run took, if that is
+/// known. Response times that jobs don't exceed are rounded up, so that a late job is seen to be.
+pub(crate) fn fill_times(row: &mut Row, jobs: &AddressStatistics, time: Option<u64>) {
     let times = jobs.responses.as_slice();
     let mean = mean_of(jobs);
     let (least, most) = (times.first().copied(), times.last().copied());
@@ -63,11 +69,12 @@ pub(crate) fn fill_times(row: &mut Row, jobs: &AddressStatistics, has_time: bool
     row.option(right("least", "least", 7), least.map(seconds));
     let response = mean.map(|mean| seconds(mean.response));
     row.option(right("mean", "mean", 7), response);
-    row.option(right("95%", "p95", 7), percentile(times, 95).map(seconds));
-    row.option(right("most", "most", 7), most.map(seconds));
+    let percentile = percentile(times, 95).map(seconds_up);
+    row.option(right("95%", "p95", 7), percentile);
+    row.option(right("most", "most", 7), most.map(seconds_up));
     row.below();
     let computed = mean
-        .filter(|_mean| has_time)
+        .filter(|_mean| time.is_some())
         .map(|mean| seconds(mean.computed));
     row.option(right("computing", "computing", 9), computed);
     let waited = mean.map(|mean| seconds(mean.waited));
@@ -76,6 +83,17 @@ pub(crate) fn fill_times(row: &mut Row, jobs: &AddressStatistics, has_time: bool
     row.option(right("sleeping", "sleeping", 8), slept);
     let taken_over = Number(jobs.taken_over);
     row.cell(right("taken over", "taken_over", 10), taken_over);
+    let share = right("share", "share", 6);
+    match time {
+        None => row.option(share, None),
+        Some(time) => row.share(share, jobs.computed, time),
+    }
+}
+
+/// The centisecond, as a trace counts them, within which a job gets late that had to end at this
+/// moment. Nothing is computed in centisecond 0, so the first hundredth is one of centisecond 1.
+fn late_from(due: u64) -> Field<'static> {
+    Seconds((due / 100).saturating_add(1))
 }
 
 /// Adds to a row how many jobs of an address missed their deadline, and when the first did.
@@ -83,7 +101,7 @@ pub(crate) fn fill_deadline(row: &mut Row, jobs: &AddressStatistics) {
     let (missed, first) = match (jobs.deadline, jobs.first_missed) {
         (None, _) => (None, None),
         (Some(_deadline), None) => (Some(Number(0)), None),
-        (Some(_deadline), Some(first)) => (Some(Number(jobs.missed)), Some(seconds(first))),
+        (Some(_deadline), Some(first)) => (Some(Number(jobs.missed)), Some(late_from(first))),
     };
     row.option(right("missed", "missed", 6), missed);
     row.option(right("first missed", "first_missed", 12), first);
@@ -100,11 +118,11 @@ pub(crate) fn name_at(timing: Option<&Timing>, at: u16) -> Option<&str> {
 }
 
 /// The width of the column of names: that of the longest, and in the narrow form at most 16.
-fn width_of(statistics: &JobStatistics<'_>, timing: Option<&Timing>, form: TableForm) -> usize {
+fn name_width(statistics: &JobStatistics<'_>, timing: Option<&Timing>, form: TableForm) -> usize {
     let mut width = 8;
     for row in statistics.rows.iter() {
         if let Some(name) = name_at(timing, row.at) {
-            width = name.chars().count().max(width);
+            width = width_of(name).max(width);
         }
     }
     match form {
@@ -126,12 +144,7 @@ struct Look {
 fn fill(row: &mut Row, look: Look, jobs: &AddressStatistics, name: Option<&str>) {
     let job = name.map_or(Octal(jobs.at), Text);
     row.cell(left("job", "job", look.width), job);
-    fill_times(row, jobs, look.time.is_some());
-    let share = right("share", "share", 6);
-    match look.time {
-        None => row.option(share, None),
-        Some(time) => row.share(share, jobs.computed, time),
-    }
+    fill_times(row, jobs, look.time);
     if look.has_deadline {
         fill_deadline(row, jobs);
     }
@@ -141,7 +154,7 @@ fn fill(row: &mut Row, look: Look, jobs: &AddressStatistics, name: Option<&str>)
 fn put_rows(table: &mut Table, statistics: &JobStatistics<'_>, timing: Option<&Timing>) {
     let has_deadline = statistics.rows.iter().any(|row| row.deadline.is_some());
     let look = Look {
-        width: width_of(statistics, timing, table.form),
+        width: name_width(statistics, timing, table.form),
         time: timing.map(|_timing| statistics.now),
         has_deadline: has_deadline || !table.is_text(),
     };

@@ -1,99 +1,171 @@
 //! The keys of two documents whose values differ.
+use crate::comparing::{Part, end_key};
 use agc_document::table_of;
-use agc_table::{Column, Row, Table, left, right};
+use agc_table::{Column, Table, right};
+use agc_text::Field;
 use agc_text::Field::{Number, Text};
 use std::alloc::{AllocError, Global};
 use toml::{Table as Document, Value};
 
-/// Adds a value, or `..` for an array or a table.
-fn fill_value(row: &mut Row, column: Column<'_>, value: Option<&Value>) {
+/// The keys that differ: the table for them, and the part that they are.
+#[derive(Drop)]
+struct Keys<'a> {
+    alloc: Global,
+    table: &'a mut Table,
+    part: Part<'static>,
+}
+
+/// The path of a key: its name and, if it is a key of a table in a list, the list's name and the
+/// table's name or number before it.
+#[derive(Clone, Copy)]
+struct PathToKey<'a> {
+    list: Option<(&'a str, Field<'a>)>,
+    key: &'a str,
+}
+
+/// The name of a table in a list, or its address, if it has one.
+fn name_of(item: &Document) -> Option<&str> {
+    match item.get("name").or(item.get("at")) {
+        Some(Value::String(name)) => Some(name.as_str()),
+        _ => None,
+    }
+}
+
+/// The table of a list that is called like one at this place of another list: at the same place, or
+/// the first. Tables without names are called by their places.
+fn called_as<'a>(list: &'a [Value], place: usize, item: &Document) -> Option<&'a Document> {
+    let name = name_of(item);
+    let here = list.get(place).and_then(Value::as_table);
+    if here.is_some_and(|here| name_of(here) == name) {
+        return here;
+    }
+    name?;
+    let mut tables = list.iter().filter_map(Value::as_table);
+    tables.find(|other| name_of(other) == name)
+}
+
+/// A table's name in a list, or else its number.
+fn label_of(item: &Document, place: usize) -> Field<'_> {
+    let number = (place as u64).saturating_add(1);
+    name_of(item).map_or(Number(number), Text)
+}
+
+/// Whether a value is a list of tables, of at least one.
+fn is_list(value: &Value) -> bool {
     match value {
-        None => row.option(column, None),
-        Some(Value::Integer(number)) if *number >= 0 => {
-            row.cell(column, Number(number.unsigned_abs()));
-        }
-        Some(Value::String(text)) => row.cell(column, Text(text.as_str())),
-        Some(_) => row.cell(column, Text("..")),
-    }
-}
-
-/// Adds the row of a key, whose path the row contains already, if its values differ.
-fn put_key(table: &mut Table, one: Option<&Value>, other: Option<&Value>) {
-    let is_same = match (one, other) {
-        (Some(one), Some(other)) => one == other,
+        Value::Array(items) => !items.is_empty() && items.iter().all(Value::is_table),
         _ => false,
-    };
-    if is_same {
-        table.row.clear();
-        return;
     }
-    table.row.end(left("", "value", 24));
-    fill_value(&mut table.row, right("first", "first", 10), one);
-    fill_value(&mut table.row, right("second", "second", 10), other);
-    table.end_row();
 }
 
-/// Begins the row of a key.
-fn begin(table: &mut Table, key: &str) {
-    if !table.is_text() {
-        table.row.option(left("job", "job", 0), None);
+/// The items of a list; none of what is no list.
+fn items_of(value: Option<&Value>) -> &[Value] {
+    match value {
+        Some(Value::Array(items)) => items.as_slice(),
+        _ => &[],
     }
-    table.row.text.fill("key ", Text(key));
 }
 
-/// Adds the rows of a key in the tables of this number in a list.
-fn put_member(table: &mut Table, (list, number): (&str, u64), key: &str, items: [&Document; 2]) {
-    let [one, other] = items;
-    begin(table, list);
-    match one.get("name").or(one.get("at")) {
-        Some(Value::String(name)) => table.row.text.fill(".", Text(name.as_str())),
-        _ => table.row.text.fill(".", Number(number)),
-    }
-    table.row.text.fill(".", Text(key));
-    put_key(table, one.get(key), other.get(key));
-}
-
-/// Adds the keys that differ in two tables of a list.
-fn put_item(table: &mut Table, place: (&str, u64), one: &Document, other: &Document) {
-    for (key, _value) in one.iter() {
-        put_member(table, place, key.as_str(), [one, other]);
-    }
-    for (key, _value) in other.iter() {
-        if one.get(key.as_str()).is_none() {
-            put_member(table, place, key.as_str(), [one, other]);
+impl Keys<'_> {
+    /// Adds a value; one that is neither a number nor a text as TOML has it.
+    fn fill_value(&mut self, column: Column<'_>, value: Option<&Value>) -> Result<(), AllocError> {
+        let row = &mut self.table.row;
+        match value {
+            None => row.option(column, None),
+            Some(Value::Integer(number)) if *number >= 0 => {
+                row.cell(column, Number(number.unsigned_abs()));
+            }
+            Some(Value::String(text)) => row.cell(column, Text(text.as_str())),
+            Some(other) => {
+                let text = format!(in self.alloc; "{other}")?;
+                row.cell(column, Text(text.as_str()));
+            }
         }
+        Ok(())
     }
-}
 
-/// Adds the keys that differ in two lists of tables, which have the same number of them. Returns
-/// whether they are such lists.
-fn put_lists(table: &mut Table, list: &str, one: &[Value], other: &[Value]) -> bool {
-    let are_tables = one.iter().chain(other.iter()).all(Value::is_table);
-    if one.len() != other.len() || !are_tables {
-        return false;
-    }
-    let mut number: u64 = 0;
-    for pair in one.iter().zip(other.iter()) {
-        number = number.saturating_add(1);
-        if let (Value::Table(one), Value::Table(other)) = pair {
-            put_item(table, (list, number), one, other);
+    /// Adds the row of a key, if its values differ.
+    fn put(
+        &mut self,
+        path: PathToKey<'_>,
+        [before, after]: [Option<&Value>; 2],
+    ) -> Result<(), AllocError> {
+        if before == after {
+            return Ok(());
         }
+        self.part.begin_row(self.table);
+        let indent = if self.table.is_text() { "  " } else { "" };
+        let text = &mut self.table.row.text;
+        text.text(indent);
+        if let Some((list, item)) = path.list {
+            text.put("{}.{}.", &[Text(list), item]);
+        }
+        text.text(path.key);
+        end_key(self.table);
+        self.fill_value(right("before", "before", 10), before)?;
+        self.fill_value(right("after", "after", 10), after)?;
+        self.table.end_row();
+        Ok(())
     }
-    true
-}
 
-/// Adds a key of a document, if its values differ. If both are lists of equally many tables, adds
-/// the keys of these tables instead.
-fn put_value(table: &mut Table, key: &str, one: Option<&Value>, other: Option<&Value>) {
-    let is_written = match (one, other) {
-        (Some(Value::Array(one)), Some(Value::Array(other))) => {
-            put_lists(table, key, one.as_slice(), other.as_slice())
+    /// Adds the keys that differ of two tables that are called the same in a list, or of one alone.
+    fn put_tables(
+        &mut self,
+        item: (&str, Field<'_>),
+        before: Option<&Document>,
+        after: Option<&Document>,
+    ) -> Result<(), AllocError> {
+        let list = Some(item);
+        for (key, value) in before.into_iter().flat_map(Document::iter) {
+            let key = key.as_str();
+            let other = after.and_then(|after| after.get(key));
+            self.put(PathToKey { list, key }, [Some(value), other])?;
         }
-        _ => false,
-    };
-    if !is_written {
-        begin(table, key);
-        put_key(table, one, other);
+        for (key, value) in after.into_iter().flat_map(Document::iter) {
+            let key = key.as_str();
+            if before.is_none_or(|before| before.get(key).is_none()) {
+                self.put(PathToKey { list, key }, [None, Some(value)])?;
+            }
+        }
+        Ok(())
+    }
+
+    /// Adds the keys that differ in two lists of tables.
+    fn put_lists(
+        &mut self,
+        list: &str,
+        before: &[Value],
+        after: &[Value],
+    ) -> Result<(), AllocError> {
+        for (place, value) in before.iter().enumerate() {
+            if let Value::Table(item) = value {
+                let other = called_as(after, place, item);
+                self.put_tables((list, label_of(item, place)), Some(item), other)?;
+            }
+        }
+        for (place, value) in after.iter().enumerate() {
+            if let Value::Table(item) = value
+                && called_as(before, place, item).is_none()
+            {
+                self.put_tables((list, label_of(item, place)), None, Some(item))?;
+            }
+        }
+        Ok(())
+    }
+
+    /// Adds a key of the documents, if its values differ; if they are lists of tables, the keys of
+    /// these tables instead.
+    fn put_value(
+        &mut self,
+        key: &str,
+        before: Option<&Value>,
+        after: Option<&Value>,
+    ) -> Result<(), AllocError> {
+        if before.is_none_or(is_list) && after.is_none_or(is_list) {
+            self.put_lists(key, items_of(before), items_of(after))
+        } else {
+            self.put(PathToKey { list: None, key }, [before, after])
+        }
     }
 }
 
@@ -101,18 +173,20 @@ fn put_value(table: &mut Table, key: &str, one: Option<&Value>, other: Option<&V
 pub(crate) fn put_keys(
     alloc: Global,
     table: &mut Table,
-    one: &str,
-    other: &str,
+    before: &str,
+    after: &str,
 ) -> Result<(), AllocError> {
-    let (Ok(one), Ok(other)) = (table_of(alloc, one)?, table_of(alloc, other)?) else {
+    let (Ok(before), Ok(after)) = (table_of(alloc, before)?, table_of(alloc, after)?) else {
         return Ok(());
     };
-    for (key, value) in one.iter() {
-        put_value(table, key.as_str(), Some(value), other.get(key.as_str()));
+    let part = Part::new("document", Text(""));
+    let mut keys = Keys { alloc, table, part };
+    for (key, value) in before.iter() {
+        keys.put_value(key.as_str(), Some(value), after.get(key.as_str()))?;
     }
-    for (key, value) in other.iter() {
-        if one.get(key.as_str()).is_none() {
-            put_value(table, key.as_str(), None, Some(value));
+    for (key, value) in after.iter() {
+        if before.get(key.as_str()).is_none() {
+            keys.put_value(key.as_str(), None, Some(value))?;
         }
     }
     Ok(())

@@ -23,7 +23,7 @@ mod sweep;
 mod writing;
 
 pub use comparing::put_differences;
-pub use finding::find_alarm;
+pub use finding::{FindOutcome, find_alarm};
 pub use jobs::write_jobs;
 pub use peaks::write_peaks;
 pub use summary::{RunSummary, summary_of};

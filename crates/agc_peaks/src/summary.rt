@@ -39,11 +39,12 @@ pub struct RunSummary {
     pub(crate) jobs: Vec<JobsSummary>,
 }
 
-/// The statistics of an address's jobs.
+/// The statistics of an address's jobs, in a run that is known to have taken this time.
 fn jobs_of(
     alloc: Global,
     row: &AddressStatistics,
     timing: Option<&Timing>,
+    time: Option<u64>,
 ) -> Result<JobsSummary, AllocError> {
     let name = match name_at(timing, row.at) {
         None => None,
@@ -54,46 +55,31 @@ fn jobs_of(
         at: row.at,
         row: Row::new(alloc)?,
     };
-    fill_times(&mut summary.row, row, timing.is_some());
+    fill_times(&mut summary.row, row, time);
     fill_deadline(&mut summary.row, row);
     Ok(summary)
-}
-
-/// Adds the statistics of the jobs of each address.
-fn add_jobs(
-    alloc: Global,
-    jobs: &mut Vec<JobsSummary>,
-    rows: &[AddressStatistics],
-    timing: Option<&Timing>,
-) -> Result<(), AllocError> {
-    for row in rows {
-        jobs.push(jobs_of(alloc, row, timing)?)?;
-    }
-    Ok(())
 }
 
 /// The statistics of all jobs of a bench or a scenario.
 fn all_jobs(alloc: Global, subject: Subject<'_>) -> Result<Vec<JobsSummary>, RunFault> {
     let job_statistics = job_statistics_of(alloc, subject)?;
+    let timing = subject.timing();
+    let time = timing.map(|_timing| job_statistics.now);
     let mut jobs = Vec::new(alloc);
-    match add_jobs(
-        alloc,
-        &mut jobs,
-        job_statistics.rows.as_slice(),
-        subject.timing(),
-    ) {
-        Ok(()) => Ok(jobs),
-        Err(_no_memory) => Err(RunFault::NoMemory),
+    for row in job_statistics.rows.as_slice() {
+        jobs.push(jobs_of(alloc, row, timing, time)?)?;
     }
+    Ok(jobs)
 }
 
 /// Adds a run's totals to a row.
 fn fill_totals(row: &mut Row, statistics: &RunStatistics) {
     let peaks = statistics.peaks();
-    let first = match peaks.first_alarm {
-        None => (Text("none"), None),
-        Some(first) => (Text(alarm_code(first.alarm)), Some(Seconds(first.time))),
-    };
+    let first = peaks.first_alarm;
+    let (code, time) = (
+        first.map(|first| Text(alarm_code(first.alarm))),
+        first.map(|first| Seconds(first.time)),
+    );
     row.cell(right("seconds", "seconds", 0), Seconds(statistics.time));
     row.cell(
         right("requests", "requests", 0),
@@ -102,13 +88,10 @@ fn fill_totals(row: &mut Row, statistics: &RunStatistics) {
     row.cell(right("refused", "refused", 0), Number(statistics.refused));
     row.cell(right("eras", "eras", 0), Number(statistics.number));
     row.cell(right("alarms", "alarms", 0), Number(peaks.alarms));
-    row.cell(right("first alarm", "first_alarm", 0), first.0);
-    row.option(right("first alarm at", "first_alarm_at", 0), first.1);
-    row.cell(right("most core sets", "most_sets", 0), Number(peaks.sets));
-    row.cell(
-        right("most VAC areas", "most_areas", 0),
-        Number(peaks.areas),
-    );
+    row.option(right("first alarm", "first_alarm", 0), code);
+    row.option(right("first alarm at", "first_alarm_at", 0), time);
+    row.cell(right("most sets", "most_sets", 0), Number(peaks.sets));
+    row.cell(right("most areas", "most_areas", 0), Number(peaks.areas));
     row.cell(right("most tasks", "most_tasks", 0), Number(peaks.tasks));
 }
 

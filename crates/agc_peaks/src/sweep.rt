@@ -10,7 +10,7 @@ use crate::running::statistics_without_report;
 use agc_run::{PendingRequests, Run};
 use agc_scenario::{Number, Scenario};
 use agc_session::{Progress, RunFault, machine_on};
-use agc_table::{Row, Table, TableForm, left, right};
+use agc_table::{Row, Table, TableForm, left, right, width_of};
 use agc_text::Field::{Seconds, Text};
 use agc_text::{Field, alarm_code};
 use agc_word::Sets;
@@ -119,25 +119,24 @@ pub(crate) fn values_of(axes: &[Axis<'_>], run: u64) -> [u64; 2] {
     }
 }
 
-/// Adds the values of a run, and its peaks, to a row; a text in place of no alarm.
-fn fill(row: &mut Row, axes: &[Axis<'_>], values: &[u64], peaks: &RunPeaks, none: Option<Field>) {
+/// Adds the values of a run, and its peaks, to a row.
+fn fill(row: &mut Row, axes: &[Axis<'_>], values: &[u64], peaks: &RunPeaks) {
     for (axis, value) in axes.iter().zip(values.iter()) {
-        let width = axis.name.chars().count().max(10);
+        let width = width_of(axis.name).max(10);
         row.cell(right(axis.name, axis.name, width), Field::Number(*value));
     }
-    let (alarm, at) = match peaks.first_alarm {
-        None => (none, None),
-        Some(first) => (
-            Some(Text(alarm_code(first.alarm))),
-            Some(Seconds(first.time)),
-        ),
-    };
+    let first = peaks.first_alarm;
+    let alarm = first.map(|first| Text(alarm_code(first.alarm)));
     row.option(left("alarm", "alarm", 5), alarm);
-    row.option(right("at", "at", 9), at);
+    row.option(right("at", "at", 9), first.map(|first| Seconds(first.time)));
     row.cell(right("alarms", "alarms", 6), Field::Number(peaks.alarms));
-    row.cell(right("sets", "most_sets", 4), Field::Number(peaks.sets));
-    row.cell(right("areas", "most_areas", 5), Field::Number(peaks.areas));
-    row.cell(right("tasks", "most_tasks", 5), Field::Number(peaks.tasks));
+    row.cell(
+        right("most sets", "most_sets", 9),
+        Field::Number(peaks.sets),
+    );
+    let (areas, tasks) = (Field::Number(peaks.areas), Field::Number(peaks.tasks));
+    row.cell(right("most areas", "most_areas", 10), areas);
+    row.cell(right("most tasks", "most_tasks", 10), tasks);
 }
 
 /// A sweep: its numbers, and its table.
@@ -160,20 +159,15 @@ impl<'a> SweepWriter<'a> {
             axes,
             table: Table::new(alloc, form)?,
         };
-        sweep.fill(&[0, 0], &RunPeaks::none());
+        fill(&mut sweep.table.row, axes, &[0, 0], &RunPeaks::none());
         sweep.table.end_heading();
         Ok(sweep)
     }
 
-    /// Adds the cells of a run.
-    fn fill(&mut self, values: &[u64], peaks: &RunPeaks) {
-        let none = Some(Text("none")).filter(|_none| self.table.is_text());
-        fill(&mut self.table.row, self.axes, values, peaks, none);
-    }
-
     /// Adds the row of a run of the sweep, counted from 0.
     pub(crate) fn put(&mut self, run: u64, peaks: &RunPeaks) {
-        self.fill(&values_of(self.axes, run), peaks);
+        let values = values_of(self.axes, run);
+        fill(&mut self.table.row, self.axes, &values, peaks);
         self.table.end_row();
     }
 

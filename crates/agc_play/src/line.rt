@@ -1,7 +1,9 @@
 //! The command on a line, and the message about a line that has none.
-use agc_check::{LineFault, LineFinding, NamedText, put_script_messages, script_findings};
+use agc_check::{
+    LineFault, LineFinding, NamedText, put_quoted, put_script_messages, script_findings,
+};
 use agc_plan::Request;
-use agc_text::Field::{Number, Text};
+use agc_text::Field::Number;
 use agc_text::{Buffer, parse_line};
 use std::alloc::{AllocError, Global};
 
@@ -76,19 +78,25 @@ fn fault_of(alloc: Global, line: &str) -> Result<LineFault, AllocError> {
 fn form_of(line: &str) -> Option<&'static str> {
     let (word, _rest) = line.split_once(' ').unwrap_or((line, ""));
     match word {
-        "tick" => Some("a number of ticks is decimal, 1 to 1000000"),
+        "tick" => Some("it has the form \"tick N\", N being 1 to 1000000"),
         "save" | "save!" => Some("it has the form \"save NAME\" or \"save! NAME\""),
-        "undo" => Some("undo stands alone"),
-        "show" => Some("show stands alone"),
-        "help" => Some("help stands alone"),
-        "quit" => Some("quit stands alone"),
+        "undo" => Some("nothing may follow \"undo\""),
+        "show" => Some("nothing may follow \"show\""),
+        "help" => Some("nothing may follow \"help\""),
+        "quit" => Some("nothing may follow \"quit\""),
         _ => None,
     }
 }
 
-/// Adds a sentence about the line of this number.
-pub(crate) fn tell_line(buffer: &mut Buffer, number: u64, sentence: &str) {
-    buffer.put("line {}: {}\n", &[Number(number), Text(sentence)]);
+/// Adds a sentence about the line of this number, which is quoted if it has a text.
+pub(crate) fn tell_line(buffer: &mut Buffer, number: u64, text: Option<&str>, sentence: &str) {
+    buffer.fill("line ", Number(number));
+    buffer.text(": ");
+    if let Some(text) = text {
+        put_quoted(buffer, text);
+    }
+    buffer.text(sentence);
+    buffer.text("\n");
 }
 
 /// Says of a line, which may have been meant as a request, what `check --script` says; and where no
@@ -98,6 +106,7 @@ fn tell_fault(finding: LineFinding<'_>, buffer: &mut Buffer) {
     let line = NamedText {
         before_line: "line ",
         text: finding.text,
+        takes_script: false,
     };
     put_script_messages(buffer, line, &[finding]);
     if is_unknown {
@@ -113,13 +122,13 @@ pub(crate) fn tell_wrong(
     buffer: &mut Buffer,
 ) -> Result<(), AllocError> {
     if let Some(form) = form_of(text) {
-        tell_line(buffer, number, form);
+        tell_line(buffer, number, Some(text), form);
         return Ok(());
     }
     match fault_of(alloc, text)? {
         LineFault::OfBench => {
             let sentence = "this is a line of a bench; agc_watch play FILE begins from a bench";
-            tell_line(buffer, number, sentence);
+            tell_line(buffer, number, Some(text), sentence);
         }
         fault => {
             let finding = LineFinding {

@@ -6,9 +6,10 @@ use crate::player::{Effect, Player};
 use agc_document::{Bench, put_bench};
 use agc_machine::Refusal;
 use agc_plan::Request;
+use agc_program::ProgramFault;
 use agc_session::{RunFault, Walk, write_result};
 use agc_text::Field::{Number, Text};
-use agc_text::{Buffer, MOST_BYTES, Output, TextWriter};
+use agc_text::{Buffer, MOST_BYTES, Output, ReadFault, TextWriter};
 use std::alloc::{AllocError, Global};
 use std::fs;
 use std::io::{BufRead, ErrorKind, Read, Write};
@@ -51,27 +52,6 @@ pub struct PlayOptions {
     pub prompts: bool,
     /// Rows are folded, so that they fit a terminal.
     pub folds: bool,
-}
-
-/// Why play ended early.
-#[derive(Clone, Copy, Debug, PartialEq, Eq)]
-pub enum PlayFault {
-    NoMemory,
-    /// A read failed.
-    Input,
-    /// A line has more than 8,192 bytes.
-    TooLong,
-    /// A write failed.
-    Output,
-}
-
-impl From<RunFault> for PlayFault {
-    fn from(fault: RunFault) -> PlayFault {
-        match fault {
-            RunFault::NoMemory | RunFault::NoThread | RunFault::Lost => PlayFault::NoMemory,
-            RunFault::Output => PlayFault::Output,
-        }
-    }
 }
 
 /// All requests of a bench, in the order of `agc serial`.
@@ -280,14 +260,14 @@ impl<'a> PlaySession<'a> {
     /// Writes a bench of all that was asked to a file of this name, and adds what came of that.
     fn write_bench(&mut self, name: &str, text: &[u8]) -> Result<(), AllocError> {
         if let Err(error) = fs::write(self.rt, name, text) {
-            let told = format!(in self.rt.alloc(); "{name}: not written: {error}\n")?;
+            let told = format!(in self.rt.alloc(); "\"{name}\": not written: {error}\n")?;
             self.buffer.text(told.as_str());
             return Ok(());
         }
         let count = self.requests.len();
         let ending = if count == 1 { "" } else { "s" };
         let told = [Text(name), Number(count as u64), Text(ending)];
-        self.buffer.put("{}: a bench of {} request{}\n", &told);
+        self.buffer.put("\"{}\": a bench of {} request{}\n", &told);
         self.saved.push(String::from_str(self.rt.alloc(), name)?)?;
         Ok(())
     }
@@ -295,7 +275,7 @@ impl<'a> PlaySession<'a> {
     /// Saves all that was asked in a file of this name, as a bench, and adds what came of that.
     fn save(&mut self, name: &str, overwrite: Overwrite) -> Result<(), RunFault> {
         if overwrite == Overwrite::Never && self.is_foreign(name) {
-            let words = "{}: not written: the file is there already; save! {} writes over it\n";
+            let words = "\"{}\": not written: the file is there already; save! {} writes over it\n";
             self.buffer.put(words, &[Text(name), Text(name)]);
             return Ok(());
         }
@@ -306,7 +286,7 @@ impl<'a> PlaySession<'a> {
                 Number(text.len() as u64),
                 Number(MOST_BYTES as u64),
             ];
-            let words = "{}: not written: it would have {} bytes, and agc reads {}\n";
+            let words = "\"{}\": not written: it would have {} bytes, and agc reads {}\n";
             self.buffer.put(words, &sizes);
             return Ok(());
         }
@@ -341,34 +321,43 @@ impl<'a> PlaySession<'a> {
     }
 }
 
-/// The bytes of the next line, with its end; none at the end of the input.
-fn next_line<R: BufRead>(alloc: Global, reader: &mut R) -> Result<Vec<u8>, PlayFault> {
+/// The bytes of the next line, with its end; of one that is too long only its front. None at the
+/// end of the input.
+fn next_line<R: BufRead>(alloc: Global, reader: &mut R) -> Result<Vec<u8>, ProgramFault> {
     let mut bytes = Vec::new(alloc);
     let mut front = Read::take(&mut *reader, MOST_LINE as u64 + 1);
-    match front.read_until(b'\n', &mut bytes) {
-        Ok(_count) if bytes.len() > MOST_LINE => Err(PlayFault::TooLong),
+    let mut read = front.read_until(b'\n', &mut bytes);
+    if bytes.len() > MOST_LINE && !bytes.ends_with(b"\n") {
+        read = reader.skip_until(b'\n');
+    }
+    match read {
         Ok(_count) => Ok(bytes),
-        Err(error) if error.kind() == ErrorKind::OutOfMemory => Err(PlayFault::NoMemory),
-        Err(_failed) => Err(PlayFault::Input),
+        Err(error) if error.kind() == ErrorKind::OutOfMemory => Err(ProgramFault::NoMemory),
+        Err(_failed) => Err(ProgramFault::Read(ReadFault::Input)),
     }
 }
 
-/// A line as a text, without its end.
-fn text_of(line: &[u8]) -> Option<&str> {
-    let text = str::from_utf8(line).ok()?;
-    Some(text.strip_suffix('\n').unwrap_or(text))
+/// A line as a text, without its end, or why it is none.
+fn text_of(line: &[u8]) -> Result<&str, &'static str> {
+    if line.len() > MOST_LINE {
+        return Err("too long: a line has at most 8192 bytes");
+    }
+    match str::from_utf8(line) {
+        Ok(text) => Ok(text.strip_suffix('\n').unwrap_or(text)),
+        Err(_other) => Err("not text"),
+    }
 }
 
 /// Answers a line of this number, which is this text.
 fn answer<W: Write>(
     played: &mut PlaySession<'_>,
-    (number, text): (u64, Option<&str>),
+    (number, text): (u64, Result<&str, &'static str>),
     writer: &mut W,
 ) -> Result<(), RunFault> {
     let served = match text {
-        Some(text) => played.serve(number, text, writer),
-        None => {
-            tell_line(&mut played.buffer, number, "not text");
+        Ok(text) => played.serve(number, text, writer),
+        Err(sentence) => {
+            tell_line(&mut played.buffer, number, None, sentence);
             Ok(())
         }
     };
@@ -388,7 +377,7 @@ fn answer_next<R: BufRead, W: Write>(
     number: u64,
     reader: &mut R,
     writer: &mut W,
-) -> Result<bool, PlayFault> {
+) -> Result<bool, ProgramFault> {
     played.prompt("> ");
     let line = next_line(played.rt.alloc(), reader)?;
     if line.is_empty() {
@@ -396,8 +385,8 @@ fn answer_next<R: BufRead, W: Write>(
         return Ok(false);
     }
     match text_of(line.as_slice()) {
-        Some("quit" | "exit" | "q") => Ok(false),
-        Some("") if played.options.prompts => Ok(true),
+        Ok("quit" | "exit" | "q") => Ok(false),
+        Ok("") if played.options.prompts => Ok(true),
         text => {
             answer(played, (number, text), writer)?;
             Ok(true)
@@ -410,7 +399,7 @@ fn answer_all<R: BufRead, W: Write>(
     played: &mut PlaySession<'_>,
     reader: &mut R,
     writer: &mut W,
-) -> Result<(), PlayFault> {
+) -> Result<(), ProgramFault> {
     played.begin()?;
     played.end_answer("\n", writer)?;
     played.prompt(GREETING);
@@ -427,14 +416,14 @@ fn answer_all<R: BufRead, W: Write>(
 ///
 /// # Errors
 ///
-/// `NoMemory` at the start, or for a line; a request that runs out of memory is reported, and play
-/// goes on. `Input`, `TooLong` and `Output`.
+/// That there is no memory at the start, or for a line; a request that runs out of memory is
+/// reported, and play goes on. That a read or a write failed.
 pub fn play<R: BufRead, W: Write>(
     rt: &HostRuntime,
     bench: &Bench,
     options: PlayOptions,
     reader: &mut R,
     writer: &mut W,
-) -> Result<(), PlayFault> {
+) -> Result<(), ProgramFault> {
     answer_all(&mut PlaySession::new(rt, bench, options)?, reader, writer)
 }

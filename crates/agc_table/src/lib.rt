@@ -5,4 +5,4 @@ mod row;
 mod table;
 
 pub use row::{Column, Row, left, right};
-pub use table::{Table, TableForm};
+pub use table::{Table, TableForm, width_of};

@@ -5,7 +5,7 @@ use std::alloc::{AllocError, Global};
 /// The most cells that a row has.
 pub(crate) const MOST_CELLS: usize = 32;
 
-/// A column: its name in text, its name in CSV and JSON, its width in text in characters, and
+/// A column: its name in text, its name in CSV and JSON, its width in text in columns, and
 /// whether its cells are left-aligned there.
 #[derive(Clone, Copy)]
 pub struct Column<'a> {
@@ -15,7 +15,7 @@ pub struct Column<'a> {
     is_left: bool,
 }
 
-/// A left-aligned column: its name in text, its name in CSV and JSON, its width in characters.
+/// A left-aligned column: its name in text, its name in CSV and JSON, its width in columns.
 pub fn left<'a>(name: &'a str, key: &'a str, width: usize) -> Column<'a> {
     Column {
         name,

@@ -10,7 +10,7 @@ use std::io::Write;
 pub enum TableForm {
     /// Text, with all columns side by side.
     Wide,
-    /// Text of at most 80 characters a line: the last cells of a row are printed on lines of their
+    /// Text of at most 80 columns a line: the last cells of a row are printed on lines of their
     /// own below it, each after the name of its column.
     Narrow,
     /// Comma-separated values.
@@ -25,9 +25,27 @@ const WIDTH: usize = 80;
 /// More blanks than any cell needs.
 const BLANKS: [u8; 128] = [b' '; 128];
 
-/// How many characters a UTF-8 text has.
-fn letters(text: &[u8]) -> usize {
-    text.iter().filter(|byte| **byte & 0xC0 != 0x80).count()
+/// How many columns of a terminal a letter takes: those of East Asia and pictures take two, and
+/// marks on other letters none.
+fn columns_of(letter: char) -> usize {
+    match letter {
+        '\u{300}'..='\u{36f}' | '\u{200b}'..='\u{200f}' | '\u{fe00}'..='\u{fe0f}' => 0,
+        '\u{1100}'..='\u{115f}' | '\u{2e80}'..='\u{a4cf}' | '\u{ac00}'..='\u{d7a3}' => 2,
+        '\u{f900}'..='\u{faff}' | '\u{fe30}'..='\u{fe6f}' | '\u{ff00}'..='\u{ff60}' => 2,
+        '\u{ffe0}'..='\u{ffe6}' | '\u{1f300}'..='\u{1faff}' | '\u{20000}'..='\u{3fffd}' => 2,
+        _ => 1,
+    }
+}
+
+/// How many columns of a terminal a text takes.
+pub fn width_of(text: &str) -> usize {
+    let columns = text.chars().map(columns_of);
+    columns.fold(0, usize::saturating_add)
+}
+
+/// How many columns of a terminal a UTF-8 text takes.
+fn columns_in(text: &[u8]) -> usize {
+    str::from_utf8(text).map_or(0, width_of)
 }
 
 /// Adds this many blanks.
@@ -53,7 +71,7 @@ fn sign_of(cell: &Cell) -> &'static str {
 /// cell, the rest of a left-aligned cell's width included.
 fn put_aligned(lines: &mut Buffer, cell: &Cell, text: &[u8], blanks: usize) -> usize {
     let sign = sign_of(cell);
-    let count = letters(text).saturating_add(sign.len());
+    let count = columns_in(text).saturating_add(sign.len());
     let rest = cell.width.saturating_sub(count);
     let (before, behind) = if cell.is_left { (0, rest) } else { (rest, 0) };
     put_blanks(lines, blanks.saturating_add(before));
@@ -111,7 +129,7 @@ impl Row {
                     blanks = whole;
                 }
                 let text = self.text_of(place);
-                is_over = cell.is_left && letters(text) > cell.width;
+                is_over = cell.is_left && columns_in(text) > cell.width;
                 blanks = put_aligned(lines, cell, text, blanks);
                 whole = whole.saturating_add(cell.width).saturating_add(2);
             }
@@ -125,7 +143,7 @@ impl Row {
             let text = self.text_of(place).trim_ascii_start();
             let name = self.name_of(place).trim_ascii_start();
             let sign = sign_of(cell);
-            let added = letters(text).saturating_add(name.len());
+            let added = columns_in(text).saturating_add(name.len());
             let added = added.saturating_add(sign.len()).saturating_add(3);
             let is_first = length.saturating_add(added) > WIDTH;
             lines.text(if is_first { "\n    " } else { "  " });
@@ -147,38 +165,38 @@ impl Row {
     }
 }
 
-/// Where to break a line so that its first part has at most this many characters: at the last
-/// blank, or if there is none, within a word.
-fn break_of(line: &[u8], most: usize) -> usize {
+/// Where to break a line so that its first part takes at most this many columns: at the last blank,
+/// or if there is none, within a word. None if it fits.
+fn break_of(line: &str, most: usize) -> Option<usize> {
     let (mut count, mut blank, mut has_word) = (0_usize, 0_usize, false);
-    for (place, byte) in line.iter().enumerate() {
-        count = count.saturating_add(usize::from(*byte & 0xC0 != 0x80));
-        if *byte == b' ' && has_word {
+    for (place, letter) in line.char_indices() {
+        count = count.saturating_add(columns_of(letter));
+        if letter == ' ' && has_word {
             blank = place;
         }
         if count > most {
-            return if blank == 0 { place } else { blank };
+            return Some(if blank == 0 { place } else { blank });
         }
-        has_word |= *byte != b' ';
+        has_word |= letter != ' ';
     }
-    line.len()
+    None
 }
 
-/// Adds a line, and continues it on further lines if it is longer than 80 characters.
-fn put_broken(buffer: &mut Buffer, line: &[u8]) {
+/// Adds a line, and continues it on further lines if it takes more than 80 columns.
+fn put_broken(buffer: &mut Buffer, line: &str) {
     let mut rest = line;
     let mut most = WIDTH;
     for _line in 0..u64::MAX {
-        if letters(rest) <= most {
+        let Some(place) = break_of(rest, most) else {
             break;
-        }
-        let (before, behind) = rest.split_at(break_of(rest, most).min(rest.len()));
-        buffer.add(Bytes(before));
+        };
+        let (before, behind) = rest.split_at_checked(place).unwrap_or((rest, ""));
+        buffer.text(before);
         buffer.text("\n        ");
         rest = behind.trim_ascii_start();
         most = WIDTH - 8;
     }
-    buffer.add(Bytes(rest));
+    buffer.text(rest);
     buffer.text("\n");
 }
 
@@ -237,7 +255,7 @@ impl Table {
         self.row.clear();
     }
 
-    /// Writes all lines. In the narrow form none has more than 80 characters.
+    /// Writes all lines. In the narrow form none takes more than 80 columns.
     ///
     /// # Errors
     ///
@@ -248,7 +266,8 @@ impl Table {
             return self.lines.send(writer);
         }
         self.lines.end()?;
-        for line in self.lines.as_bytes().split_inclusive(|byte| *byte == b'\n') {
+        let text = str::from_utf8(self.lines.as_bytes()).unwrap_or("");
+        for line in text.split_inclusive('\n') {
             put_broken(&mut self.broken, line.trim_ascii_end());
         }
         self.lines.clear();

@@ -18,12 +18,6 @@ fn full_table(alarm: Alarm, scene: &Scene) -> &'static str {
     }
 }
 
-/// Adds an alarm, and the table that was full.
-fn put_full(buffer: &mut Buffer, alarm: Alarm, scene: &Scene) {
-    let told = [Text(alarm_code(alarm)), Text(full_table(alarm, scene))];
-    buffer.put("alarm {}: {}", &told);
-}
-
 /// Adds the task whose action raised the alarm, and that action, by its number where the task has
 /// several.
 fn put_raiser(page: &mut Page, plan: &Plan, task: Task, number: usize) {
@@ -37,15 +31,13 @@ fn put_raiser(page: &mut Page, plan: &Plan, task: Task, number: usize) {
         page.table.lines.text("        raised by task ");
     }
     page.columns.put_task(&mut page.table.lines, task);
-    match actions.get(number.saturating_sub(1)) {
-        None => page.table.lines.text(": \n"),
-        Some(action) => match action_request(*action) {
-            None => page.table.lines.text(": nothing\n"),
-            Some(request) => {
-                let text = request_text(&request);
-                page.table.lines.put(": {}\n", &[Text(text.as_str())]);
-            }
-        },
+    let action = actions.get(number.saturating_sub(1));
+    match action.and_then(|action| action_request(*action)) {
+        None => page.table.lines.text(": nothing\n"),
+        Some(request) => {
+            let text = request_text(&request);
+            page.table.lines.put(": {}\n", &[Text(text.as_str())]);
+        }
     }
 }
 
@@ -107,9 +99,9 @@ pub(crate) fn put_account(page: &mut Page, plan: &Plan, event: &Event) {
     let Some(alarm) = event.alarm() else {
         return;
     };
-    page.table.lines.text("        ");
-    put_full(&mut page.table.lines, alarm, &event.scene);
-    page.table.lines.text("\n");
+    let full = Text(full_table(alarm, &event.scene));
+    let told = [Text(alarm_code(alarm)), full];
+    page.table.lines.put("        alarm {}: {}\n", &told);
     if let Some(task) = event.fired.get(event.fired.len().saturating_sub(1)) {
         put_raiser(page, plan, task, event.raised);
     }

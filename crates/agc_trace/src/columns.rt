@@ -4,6 +4,7 @@ use agc_plan::{Phase, Task};
 use agc_run::{Source, Subject};
 use agc_scenario::Scenario;
 use agc_session::{count_requests, line_name};
+use agc_table::width_of;
 use agc_text::Field::{Number, Octal, Seconds, Text};
 use agc_text::{Buffer, Field};
 use std::alloc::{AllocError, Global};
@@ -30,7 +31,7 @@ fn source_width(names: &Names, events: usize) -> usize {
         let letters = match names.of(ItemKind::Event(event)) {
             None if event < 999 => SOURCE_WIDTH,
             None => SOURCE_WIDTH + 1,
-            Some(name) => name.chars().count().min(MOST_LETTERS),
+            Some(name) => width_of(front_of(name)),
         };
         width = width.max(letters);
     }
@@ -154,9 +155,17 @@ impl Columns {
     }
 }
 
-/// Adds a name to a cell, at most this many letters of it, without blanks.
+/// The part of a name that is shown.
+fn front_of(name: &str) -> &str {
+    match name.char_indices().nth(MOST_LETTERS) {
+        None => name,
+        Some((place, _letter)) => name.get(..place).unwrap_or(name),
+    }
+}
+
+/// Adds the part of a name that is shown to a cell, without blanks.
 fn put_joined(buffer: &mut Buffer, name: &str) {
-    for letter in name.chars().take(MOST_LETTERS) {
+    for letter in front_of(name).chars() {
         let letter = if letter == ' ' { '_' } else { letter };
         buffer.text(letter.encode_utf8(&mut [0; 4]));
     }

@@ -13,7 +13,6 @@ use agc_run::{Event, ObservedMachine, Scene, Source};
 use agc_table::TableForm;
 use agc_text::Field::{Number, Text};
 use agc_text::Output;
-use agc_word::Word;
 use std::alloc::{AllocError, Global};
 use std::io::Write;
 
@@ -70,14 +69,6 @@ pub struct Rows {
     refused: RefusalCounts,
 }
 
-/// The number of requests that were quiet in this way, with one more.
-fn quiet_count(left: Option<QuietRun>, quiet: Quiet) -> u64 {
-    match left {
-        Some(left) if left.quiet == quiet => left.count.saturating_add(1),
-        _ => 1,
-    }
-}
-
 impl Rows {
     /// The rows of a run, before the first.
     ///
@@ -113,10 +104,11 @@ impl Rows {
 
     /// Counts one more quiet request, and first writes those that were quiet in another way.
     fn put_quiet(&mut self, quiet: Quiet) {
-        let count = quiet_count(self.left, quiet);
-        if count == 1 {
+        let before = self.left.filter(|left| left.quiet == quiet);
+        if before.is_none() {
             self.put_left();
         }
+        let count = before.map_or(1, |left| left.count.saturating_add(1));
         self.left = Some(QuietRun { quiet, count });
     }
 
@@ -137,33 +129,21 @@ impl Rows {
         }
     }
 
-    /// Adds the heading.
-    fn put_heading(&mut self, scene: &Scene) {
-        match self.choice.form {
-            TraceFormat::Rows(_form) => self.page.put_heading(scene),
-            TraceFormat::Chart => {
-                let is_whole = self.choice.from.is_none();
-                let first = if is_whole { Some(scene) } else { None };
-                self.chart.begin(&mut self.page, first);
-            }
-        }
-    }
-
-    /// Adds the outcome of power-up with these phase words.
-    fn put_power(&mut self, words: &[Word; 12], scene: &Scene) {
-        match self.choice.form {
-            TraceFormat::Rows(_form) => put_power(&mut self.page, words, scene),
-            TraceFormat::Chart => {}
-        }
-    }
-
     /// Adds the heading, and the outcome of power-up, if a bench has phase words.
     pub fn begin(&mut self, watched: &ObservedMachine, bench: &Bench) {
         self.keep_scene(watched);
         let scene = watched.scene();
-        self.put_heading(&scene);
-        if let Some(words) = bench.power() {
-            self.put_power(&words, &scene);
+        match self.choice.form {
+            TraceFormat::Rows(_form) => {
+                self.page.put_heading(&scene);
+                if let Some(words) = bench.power() {
+                    put_power(&mut self.page, &words, &scene);
+                }
+            }
+            TraceFormat::Chart => {
+                let is_whole = self.choice.from.is_none();
+                self.chart.begin(&mut self.page, is_whole.then_some(&scene));
+            }
         }
     }
 
@@ -171,14 +151,6 @@ impl Rows {
     pub(crate) fn pass(&mut self, request: &Request, clock: Option<&Clock>) {
         if let Some(clock) = clock {
             self.chart.pass(request, clock);
-        }
-    }
-
-    /// The way in which an event is quiet; None if the trace isn't brief.
-    fn quiet(&self, event: &Event) -> Option<Quiet> {
-        match &self.before {
-            None => None,
-            Some(before) => quiet_of(before, event),
         }
     }
 
@@ -196,17 +168,6 @@ impl Rows {
         }
     }
 
-    /// Adds the row of an event and the account of its alarm, or counts it.
-    fn put_event(&mut self, watched: &ObservedMachine, source: Source, event: &Event) {
-        match self.quiet(event) {
-            Some(quiet) => self.put_quiet(quiet),
-            None => {
-                self.put_left();
-                self.put_row_of(watched, source, event);
-            }
-        }
-    }
-
     /// Adds the row of a machine's last event, with its source and the account of its alarm, if it
     /// is chosen.
     pub fn add(&mut self, watched: &ObservedMachine, source: Source, event: &Event) {
@@ -217,7 +178,13 @@ impl Rows {
             event.number.saturating_mul(100)
         };
         if self.choice.tells(place, event.alarm().is_some()) {
-            self.put_event(watched, source, event);
+            let before = self.before.as_ref();
+            if let Some(quiet) = before.and_then(|before| quiet_of(before, event)) {
+                self.put_quiet(quiet);
+            } else {
+                self.put_left();
+                self.put_row_of(watched, source, event);
+            }
         }
         self.keep_scene(watched);
     }

@@ -1,23 +1,24 @@
 //! The document that a text is, or that a script becomes; if it is none, its findings.
-use crate::stops::{Stop, add, stop_with};
+use crate::stops::{Stop, stop_with};
 use agc_check::{
     Document, ExploredBench, Findings, NamedText, explored_findings, put_bench_messages,
     put_script_messages, scenario_findings, script_findings,
 };
-use agc_document::Bench;
+use agc_plan::Request;
 use agc_program::ProgramFault;
 use agc_run::Subject;
 use agc_scenario::{Scenario, is_scenario};
-use agc_text::Buffer;
+use agc_text::{Buffer, ScriptFault, read_script};
 use std::alloc::{AllocError, Global};
+use std::fmt::Write;
 
 const RUN_ONCE: &str =
     "workers that repeat and devices without pulses are run once; agc refuses such a bench";
 
-const WANTS_SCENARIO: &str = " this is a bench; a scenario has the key \"seconds\"";
+const WANTS_SCENARIO: &str = "this is a bench; a scenario has the key \"seconds\"";
 
 const WANTS_BENCH: &str =
-    " this is a scenario, whose clock fixes the order of its requests. A bench \
+    "this is a scenario, whose clock fixes the order of its requests. A bench \
 has callers in its place, for example:
 [[worker]]
 script = [\"novac 20 02000 00005\", \"end\"]
@@ -39,34 +40,48 @@ impl RunnableDocument {
             RunnableDocument::Scenario(scenario) => Subject::Scenario(scenario),
         }
     }
+}
 
-    /// Says on standard error if this is a bench of callers that never stop.
-    pub(crate) fn say_run_once(&self, rt: &HostRuntime, input: NamedText<'_>) {
-        if let RunnableDocument::Bench(explored) = self {
-            say_run_once(rt, input, explored);
-        }
+/// Stops for messages about an input.
+fn stop_for(messages: Buffer) -> Stop {
+    if messages.end().is_ok() {
+        Stop::Findings(messages)
+    } else {
+        Stop::ProgramFault(ProgramFault::NoMemory)
+    }
+}
+
+/// Stops because an input is no script.
+fn no_script(alloc: Global, input: NamedText<'_>) -> Result<Stop, AllocError> {
+    let findings = script_findings(alloc, input.text)?;
+    let mut messages = Buffer::new(alloc)?;
+    put_script_messages(&mut messages, input, findings.as_slice());
+    Ok(stop_for(messages))
+}
+
+/// The requests of the script that an input is.
+pub(crate) fn script_in(alloc: Global, input: NamedText<'_>) -> Result<Vec<Request>, Stop> {
+    match read_script(alloc, input.text) {
+        Ok(requests) => Ok(requests),
+        Err(ScriptFault::NoMemory) => Err(Stop::ProgramFault(ProgramFault::NoMemory)),
+        Err(ScriptFault::Line(_first)) => Err(no_script(alloc, input)?),
     }
 }
 
 /// The bench whose script an input is, as a document, with the default of each key.
 pub(crate) fn bench_of_script(alloc: Global, input: NamedText<'_>) -> Result<String, Stop> {
-    let findings = script_findings(alloc, input.text)?;
-    if !findings.is_empty() {
-        let mut messages = Buffer::new(alloc)?;
-        put_script_messages(&mut messages, input, findings.as_slice());
-        return Err(Stop::Findings(messages));
-    }
+    let _requests = script_in(alloc, input)?;
     let mut bench = String::new(alloc);
     bench.push_str("script = [\n")?;
     for line in input.text.split_terminator('\n') {
-        add(&mut bench, &["    \"", line, "\",\n"])?;
+        write!(bench, "    \"{line}\",\n")?;
     }
     bench.push_str("]\n")?;
     Ok(bench)
 }
 
 /// Says on standard error how a bench of callers that never stop is run, if it is such a bench.
-fn say_run_once(rt: &HostRuntime, input: NamedText<'_>, explored: &ExploredBench) {
+pub(crate) fn say_run_once(rt: &HostRuntime, input: NamedText<'_>, explored: &ExploredBench) {
     let (file, flags) = (input.before_line, &explored.flags);
     if flags.repeats.iter().any(|repeats| *repeats)
         || flags.endless.iter().any(|endless| *endless)
@@ -79,8 +94,8 @@ fn say_run_once(rt: &HostRuntime, input: NamedText<'_>, explored: &ExploredBench
 fn refusal(alloc: Global, input: NamedText<'_>, found: &Findings) -> Stop {
     match Buffer::new(alloc) {
         Ok(mut messages) => {
-            put_bench_messages(&mut messages, input.before_line, found);
-            Stop::Findings(messages)
+            put_bench_messages(&mut messages, input, found);
+            stop_for(messages)
         }
         Err(_no_memory) => Stop::ProgramFault(ProgramFault::NoMemory),
     }
@@ -94,28 +109,23 @@ fn parse_document<'a>(alloc: Global, input: NamedText<'a>) -> Result<Document<'a
     }
 }
 
-/// The bench or the scenario that a document is, or its findings. A scenario is a document that
-/// says how many seconds it lasts.
-pub(crate) fn looked_at(
-    alloc: Global,
-    document: &Document<'_>,
-) -> Result<Result<RunnableDocument, Findings>, AllocError> {
-    if is_scenario(document.table()) {
-        Ok(scenario_findings(alloc, document)?.map(RunnableDocument::Scenario))
-    } else {
-        Ok(explored_findings(alloc, document)?.map(RunnableDocument::Bench))
-    }
-}
-
-/// The bench or the scenario that an input is.
+/// The bench or the scenario that an input is. A scenario is a document that says how many seconds
+/// it lasts.
 pub(crate) fn document_in(
     rt: &HostRuntime,
     input: NamedText<'_>,
 ) -> Result<RunnableDocument, Stop> {
     let document = parse_document(rt.alloc(), input)?;
-    match looked_at(rt.alloc(), &document)? {
+    let read = if is_scenario(document.table()) {
+        scenario_findings(rt.alloc(), &document)?.map(RunnableDocument::Scenario)
+    } else {
+        explored_findings(rt.alloc(), &document)?.map(RunnableDocument::Bench)
+    };
+    match read {
         Ok(runnable) => {
-            runnable.say_run_once(rt, input);
+            if let RunnableDocument::Bench(explored) = &runnable {
+                say_run_once(rt, input, explored);
+            }
             Ok(runnable)
         }
         Err(found) => Err(refusal(rt.alloc(), input, &found)),
@@ -126,19 +136,13 @@ pub(crate) fn document_in(
 pub(crate) fn explored_in(alloc: Global, input: NamedText<'_>) -> Result<ExploredBench, Stop> {
     let document = parse_document(alloc, input)?;
     if is_scenario(document.table()) {
-        return Err(stop_with(alloc, 1, &[input.before_line, WANTS_BENCH]));
+        let file = input.before_line;
+        return Err(stop_with(1, format!(in alloc; "{file} {WANTS_BENCH}")));
     }
     match explored_findings(alloc, &document)? {
         Ok(explored) => Ok(explored),
         Err(found) => Err(refusal(alloc, input, &found)),
     }
-}
-
-/// The bench to play from.
-pub(crate) fn bench_in(rt: &HostRuntime, input: NamedText<'_>) -> Result<Bench, Stop> {
-    let explored = explored_in(rt.alloc(), input)?;
-    say_run_once(rt, input, &explored);
-    Ok(explored.bench)
 }
 
 /// Stops for these findings of an input that is no scenario. A bench gets a sentence of its own.
@@ -148,11 +152,12 @@ fn no_scenario(
     document: &Document<'_>,
     found: &Findings,
 ) -> Result<Stop, AllocError> {
-    if explored_findings(alloc, document)?.is_ok() {
-        Ok(stop_with(alloc, 1, &[input.before_line, WANTS_SCENARIO]))
+    let file = input.before_line;
+    Ok(if explored_findings(alloc, document)?.is_ok() {
+        stop_with(1, format!(in alloc; "{file} {WANTS_SCENARIO}"))
     } else {
-        Ok(refusal(alloc, input, found))
-    }
+        refusal(alloc, input, found)
+    })
 }
 
 /// The scenario that an input is.

@@ -1,10 +1,9 @@
 //! Reading the input: a file that is named, or standard input.
-use crate::stops::Stop;
+use crate::stops::{Stop, stop_with};
 use crate::words::Input;
 use agc_program::ProgramFault;
 use agc_text::{MOST_BYTES, ReadFault, read_all};
 use std::alloc::Global;
-use std::fmt::Write;
 use std::io::{ErrorKind, Input as Standard, IsTerminal, Read};
 use std::{fs, io};
 
@@ -25,12 +24,10 @@ pub(crate) fn read_file(rt: &HostRuntime, name: &str) -> io::Result<Vec<u8>> {
 
 /// Stops because a file can't be read or written, in the system's words.
 pub(crate) fn unread(alloc: Global, name: &str, error: &io::Error) -> Stop {
-    let mut told = String::new(alloc);
-    if error.kind() != ErrorKind::OutOfMemory && write!(told, "{name}: {error}").is_ok() {
-        Stop::Message(4, told)
-    } else {
-        Stop::ProgramFault(ProgramFault::NoMemory)
+    if error.kind() == ErrorKind::OutOfMemory {
+        return Stop::ProgramFault(ProgramFault::NoMemory);
     }
+    stop_with(4, format!(in alloc; "{name}: {error}"))
 }
 
 /// Stops because standard output can't be written, in the system's words; a closed pipe needs none.
@@ -43,19 +40,14 @@ pub(crate) fn unwritten(alloc: Global, error: &io::Error) -> Stop {
 
 /// Stops because an input of this name is no text that is taken.
 fn refused_text(alloc: Global, name: &str, fault: ReadFault) -> Stop {
-    let mut told = String::new(alloc);
-    let wrote = match fault {
-        ReadFault::TooLong => write!(
-            told,
-            "{name}: too long: at most {MOST_BYTES} bytes are read"
-        ),
-        ReadFault::NotText => write!(told, "{name}: not text: it isn't UTF-8"),
+    let sentence = match fault {
+        ReadFault::TooLong => {
+            format!(in alloc; "{name}: too long: at most {MOST_BYTES} bytes are read")
+        }
+        ReadFault::NotText => format!(in alloc; "{name}: not text: it isn't UTF-8"),
         fault => return Stop::ProgramFault(ProgramFault::Read(fault)),
     };
-    match wrote {
-        Ok(()) => Stop::Message(1, told),
-        Err(_no_memory) => Stop::ProgramFault(ProgramFault::NoMemory),
-    }
+    stop_with(1, sentence)
 }
 
 /// The text of an input of this name, whose bytes were read.

@@ -19,13 +19,21 @@ mod work;
 mod workbench;
 
 use agc_play::PlayOptions;
+use std::env;
 use std::io::IsTerminal;
 use std::process::ExitCode;
+
+/// Whether the variable `COLUMNS` says that a terminal has room for wide tables.
+fn is_wide(rt: &HostRuntime) -> bool {
+    let columns = env::var(rt, "COLUMNS").ok();
+    let columns = columns.and_then(|columns| columns.parse::<u64>().ok());
+    columns.is_some_and(|columns| columns >= words::WIDE)
+}
 
 fn main(rt: HostRuntime) -> ExitCode {
     let rules = PlayOptions {
         prompts: rt.stdin().is_terminal(),
-        folds: rt.stdout().is_terminal(),
+        folds: rt.stdout().is_terminal() && !is_wide(&rt),
     };
     program::run(&rt, rules)
 }

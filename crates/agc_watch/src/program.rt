@@ -2,7 +2,7 @@
 use crate::documents::bench_of_script;
 use crate::files::{text_of, unwritten};
 use crate::progress::ProgressReporter;
-use crate::stops::{Stop, exit_early, join_words};
+use crate::stops::{Stop, exit_early};
 use crate::words::{Invocation, Subcommand, parse_words};
 use crate::work::work;
 use agc_check::NamedText;
@@ -53,18 +53,6 @@ fn standard_output(rt: &HostRuntime) -> Result<StandardOutput<'_>, Stop> {
     BufWriter::new(rt.alloc(), writer).map_err(|_| Stop::ProgramFault(ProgramFault::NoMemory))
 }
 
-/// Does a command's work on its input, and flushes what it wrote. Returns the exit status.
-fn work_and_flush(
-    console: &mut Console<'_>,
-    asked: &Invocation<'_>,
-    rules: PlayOptions,
-    input: NamedText<'_>,
-) -> Result<u8, Stop> {
-    let status = work(console, asked, rules, input)?;
-    flush_output(&mut console.output)?;
-    Ok(status)
-}
-
 /// The same end, and of a failed write the reason.
 fn with_reason(alloc: Global, output: &StandardOutput<'_>, stop: Stop) -> Stop {
     match (stop, output.get_ref().fault) {
@@ -89,21 +77,27 @@ fn work_buffered(
         progress: ProgressReporter::new(rt, asked.subcommand.work_unit(), asked.has_progress),
         output: standard_output(rt)?,
     };
-    match work_and_flush(&mut console, asked, rules, input) {
-        Ok(status) => Ok(status),
-        Err(stop) => Err(with_reason(rt.alloc(), &console.output, stop)),
-    }
+    let ended = match work(&mut console, asked, rules, input) {
+        Ok(status) => match flush_output(&mut console.output) {
+            Ok(()) => return Ok(status),
+            Err(fault) => Stop::ProgramFault(fault),
+        },
+        Err(stop) => stop,
+    };
+    Err(with_reason(rt.alloc(), &console.output, ended))
 }
 
-/// Does the work for these words, of which the first is the program's own name. Returns the exit
-/// status.
-fn run_words(rt: &HostRuntime, words: &[String], rules: PlayOptions) -> Result<u8, Stop> {
-    let asked = parse_words(rt.alloc(), words, rules.folds)?;
+/// Does the work for the words of the command line. Returns the exit status.
+fn run_words(rt: &HostRuntime, rules: PlayOptions) -> Result<u8, Stop> {
+    let words = given_words(rt)?;
+    let asked = parse_words(rt.alloc(), words.as_slice(), rules.folds)?;
     let text = text_of(rt, asked.input)?;
-    let before_line = join_words(rt.alloc(), &[asked.input.name(), ":"])?;
+    let name = asked.input.name();
+    let before_line = format!(in rt.alloc(); "{name}:")?;
     let input = NamedText {
         before_line: before_line.as_str(),
         text: text.as_str(),
+        takes_script: asked.subcommand.takes_script(),
     };
     match asked.subcommand {
         Subcommand::Show(_) | Subcommand::Page(..) if asked.is_script => {
@@ -115,15 +109,9 @@ fn run_words(rt: &HostRuntime, words: &[String], rules: PlayOptions) -> Result<u
     }
 }
 
-/// Runs the program by the words of the command line.
-fn run_given(rt: &HostRuntime, rules: PlayOptions) -> Result<u8, Stop> {
-    let words = given_words(rt)?;
-    run_words(rt, words.as_slice(), rules)
-}
-
 /// Runs the program; in this manner one plays.
 pub fn run(rt: &HostRuntime, rules: PlayOptions) -> ExitCode {
-    match run_given(rt, rules) {
+    match run_words(rt, rules) {
         Ok(status) => ExitCode::from(status),
         Err(stop) => exit_early(rt, &stop),
     }

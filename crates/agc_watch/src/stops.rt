@@ -3,11 +3,13 @@ ghost use Rattle.std.specs.Prelude.{◌≡◌};
 ghost use Rattle.agc_watch.specs.declared.stops.Stop.TheVariants as stop;
 ghost use Rattle.agc_program.specs.declared.fault.ProgramFault.TheVariants as fault;
 
-use agc_program::{Program, ProgramFault, exit_with};
+use agc_program::{FaultLine, Program, ProgramFault};
 use agc_session::RunFault;
-use agc_text::{Buffer, MOST_BYTES};
+use agc_text::Buffer;
 use clap::Error;
-use std::alloc::{AllocError, Global};
+use std::alloc::AllocError;
+use std::fmt;
+use std::fmt::Write;
 use std::io::ErrorKind;
 use std::process::ExitCode;
 
@@ -31,8 +33,6 @@ pub(crate) enum Stop {
     Findings(Buffer),
     /// The reader of standard output has closed it.
     ClosedPipe,
-    /// The bench that was written has this many bytes, more than `agc` takes.
-    TooLong(u64),
     /// The words ask for the help or the version, or they are wrong, or don't suit the document;
     /// this text explains.
     Words(Error),
@@ -40,25 +40,10 @@ pub(crate) enum Stop {
     Message(u8, String),
 }
 
-/// Adds words, one after the other.
-pub(crate) fn add(text: &mut String, words: &[&str]) -> Result<(), AllocError> {
-    for word in words {
-        text.push_str(word)?;
-    }
-    Ok(())
-}
-
-/// These words, joined.
-pub(crate) fn join_words(alloc: Global, words: &[&str]) -> Result<String, AllocError> {
-    let mut text = String::new(alloc);
-    add(&mut text, words)?;
-    Ok(text)
-}
-
-/// An end with this status, for which these words give the reason.
-pub(crate) fn stop_with(alloc: Global, status: u8, words: &[&str]) -> Stop {
-    match join_words(alloc, words) {
-        Ok(text) => Stop::Message(status, text),
+/// An end with this status, for which this sentence is the reason.
+pub(crate) fn stop_with(status: u8, sentence: Result<String, AllocError>) -> Stop {
+    match sentence {
+        Ok(sentence) => Stop::Message(status, sentence),
         Err(_no_memory) => Stop::ProgramFault(ProgramFault::NoMemory),
     }
 }
@@ -87,51 +72,60 @@ impl From<RunFault> for Stop {
     }
 }
 
-/// Prints the help or the version, or the message about wrong words.
-fn exit_with_help(rt: &HostRuntime, text: &Error) -> ExitCode {
+impl Stop {
+    /// The exit status.
+    fn status(&self) -> u8 {
+        match self {
+            Stop::ProgramFault(fault) => fault.status(),
+            Stop::Findings(_findings) => 1,
+            Stop::ClosedPipe => 4,
+            Stop::Words(text) if text.use_stderr() => 2,
+            Stop::Words(_text) => 0,
+            Stop::Message(status, _told) => *status,
+        }
+    }
+}
+
+/// The lines on standard error.
+impl fmt::Display for Stop {
+    fn fmt<W: fmt::Write>(&self, f: &mut fmt::Formatter<W>) -> fmt::Result {
+        match self {
+            Stop::ProgramFault(fault) => {
+                let program = PROGRAM;
+                let fault = *fault;
+                writeln!(f, "{}", FaultLine { program, fault })
+            }
+            Stop::Findings(findings) => {
+                let text = str::from_utf8(findings.as_bytes());
+                f.write_str(text.unwrap_or(""))
+            }
+            Stop::Message(_status, told) => writeln!(f, "{}: {told}", PROGRAM.name),
+            Stop::ClosedPipe | Stop::Words(_) => Ok(()),
+        }
+    }
+}
+
+/// Prints the help or the version on standard output, or the message about wrong words on standard
+/// error. Returns the exit status.
+fn print_words(rt: &HostRuntime, text: &Error, status: u8) -> u8 {
     match text.print(rt) {
-        Ok(()) if text.use_stderr() => ExitCode::from(2),
-        Ok(()) => ExitCode::SUCCESS,
-        Err(error) if error.kind() == ErrorKind::BrokenPipe => ExitCode::from(4),
+        Ok(()) => status,
+        Err(error) if error.kind() == ErrorKind::BrokenPipe => 4,
         Err(error) => {
             let _ = eprintln!(rt; "agc_watch: output: {error}");
-            ExitCode::from(4)
+            4
         }
     }
 }
 
-/// Writes a line on standard error, and ends with this status.
-fn exit_with_message(rt: &HostRuntime, status: u8, told: &str) -> ExitCode {
-    let _ = eprintln!(rt; "agc_watch: {told}");
-    ExitCode::from(status)
-}
-
-/// Reports the findings of an input that is refused.
-fn exit_with_findings(rt: &HostRuntime, findings: &Buffer) -> ExitCode {
-    match str::from_utf8(findings.as_bytes()) {
-        Ok(text) if findings.end().is_ok() => {
-            let _ = eprint!(rt; "{text}");
-            ExitCode::from(1)
-        }
-        _ => exit_with(rt, PROGRAM, Err(ProgramFault::NoMemory)),
-    }
-}
-
-/// Reports that a bench is too long for `agc`.
-fn exit_too_long(rt: &HostRuntime, bytes: u64) -> ExitCode {
-    let _ = eprintln!(rt; "agc_watch: the bench has {bytes} bytes, and agc takes {MOST_BYTES}");
-    ExitCode::from(1)
-}
-
-/// Reports why a command ended early, and ends the program: with status 1 if its input is refused,
-/// or if `agc` doesn't take the bench that was written.
+/// Reports why a command ended early, and ends the program.
 pub(crate) fn exit_early(rt: &HostRuntime, stop: &Stop) -> ExitCode {
-    match stop {
-        Stop::ProgramFault(fault) => exit_with(rt, PROGRAM, Err(*fault)),
-        Stop::Findings(findings) => exit_with_findings(rt, findings),
-        Stop::ClosedPipe => ExitCode::from(4),
-        Stop::TooLong(bytes) => exit_too_long(rt, *bytes),
-        Stop::Words(text) => exit_with_help(rt, text),
-        Stop::Message(status, told) => exit_with_message(rt, *status, told.as_str()),
-    }
+    let status = stop.status();
+    ExitCode::from(match stop {
+        Stop::Words(text) => print_words(rt, text, status),
+        other => {
+            let _ = eprint!(rt; "{other}");
+            status
+        }
+    })
 }

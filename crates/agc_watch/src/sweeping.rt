@@ -1,10 +1,10 @@
 //! Sweeps: the numbers of a scenario that they change.
 use crate::documents::scenario_in;
 use crate::program::Console;
-use crate::stops::{Stop, YES, add};
+use crate::stops::{Stop, YES};
 use crate::words::{SweepOptions, Values, refused_words};
 use agc_check::NamedText;
-use agc_peaks::{Axis, SweepParameter, find_alarm, run_sweep};
+use agc_peaks::{Axis, FindOutcome, SweepParameter, find_alarm, run_sweep};
 use agc_scenario::{Scenario, TimedEvent, TimedJob};
 use agc_text::add_word;
 use arrayvec::ArrayString;
@@ -19,7 +19,7 @@ fn add_job(told: &mut String, job: &TimedJob) -> Result<(), AllocError> {
     let mut address: ArrayString<32> = ArrayString::new();
     add_word(&mut address, job.at().get());
     let called = job.name().unwrap_or(address.as_str());
-    add(told, &[", job.", called, ".cost"])
+    write!(told, ", job.{called}.cost")
 }
 
 /// Adds the keys of an event, if it has a name.
@@ -27,10 +27,10 @@ fn add_event(told: &mut String, event: &TimedEvent) -> Result<(), AllocError> {
     let Some(name) = event.name() else {
         return Ok(());
     };
-    add(told, &[", event.", name, ".at"])?;
+    write!(told, ", event.{name}.at")?;
     match event.every() {
         None => Ok(()),
-        Some(_every) => add(told, &[", event.", name, ".every, event.", name, ".until"]),
+        Some(_every) => write!(told, ", event.{name}.every, event.{name}.until"),
     }
 }
 
@@ -48,8 +48,8 @@ fn add_keys(told: &mut String, scenario: &Scenario) -> Result<(), AllocError> {
 
 /// Adds that a key names no number of a scenario, and the keys that do.
 fn add_unknown(told: &mut String, scenario: &Scenario, key: &str) -> Result<(), AllocError> {
-    let begin = "' is no number of this scenario, which has sets, steal, seconds, seed";
-    add(told, &["'", key, begin])?;
+    let has = "which has sets, steal, seconds, seed";
+    write!(told, "'{key}' is no number of this scenario, {has}")?;
     add_keys(told, scenario)
 }
 
@@ -85,6 +85,20 @@ fn axis_of<'a>(alloc: Global, scenario: &Scenario, values: Values<'a>) -> Result
     }
 }
 
+/// The exit status that says whether a value was found. Warns on standard error if it may not be
+/// the smallest.
+fn status_of(rt: &HostRuntime, found: FindOutcome) -> u8 {
+    let FindOutcome::Found(larger) = found else {
+        return 0;
+    };
+    if let Some(larger) = larger {
+        let _ = eprintln!(rt;
+            "agc_watch: warning: {larger} is larger and raises none, so there may be a smaller one"
+        );
+    }
+    YES
+}
+
 /// Runs a scenario for each value of a number, or of two, or looks for a value that raises an
 /// alarm. The exit status says whether such a value was found.
 fn sweep_scenario(
@@ -100,9 +114,8 @@ fn sweep_scenario(
         let axes = [first, axis_of(alloc, scenario, values)?];
         run_sweep(alloc, scenario, &axes, form, progress, output)?;
     } else if asked.finds {
-        if find_alarm(alloc, scenario, &[first], form, output)? {
-            return Ok(YES);
-        }
+        let found = find_alarm(alloc, scenario, &[first], form, output)?;
+        return Ok(status_of(console.rt, found));
     } else {
         run_sweep(alloc, scenario, &[first], form, progress, output)?;
     }

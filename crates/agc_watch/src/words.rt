@@ -1,5 +1,5 @@
 //! Reading the words of the command line.
-use crate::commands::{named_command, whole_command};
+use crate::commands::{error_of, whole_command};
 use crate::page::PageView;
 use crate::progress::WorkUnit;
 use crate::stops::Stop;
@@ -8,9 +8,9 @@ use agc_plan::Alarm;
 use agc_program::ProgramFault;
 use agc_table::TableForm;
 use agc_trace::{TraceFormat, TraceOptions};
+use clap::ArgMatches;
 use clap::error::ErrorKind;
-use clap::{ArgMatches, Command, Error};
-use std::alloc::{AllocError, Global};
+use std::alloc::Global;
 
 /// The most states of a search, unless the words name another number.
 const STATES: u64 = 2_000_000;
@@ -19,7 +19,7 @@ const STATES: u64 = 2_000_000;
 const LEAST_WIDTH: u64 = 80;
 
 /// From this many columns on, a whole row of a table fits on one line.
-const WIDE: u64 = 120;
+pub(crate) const WIDE: u64 = 120;
 
 /// Why two forms of a trace are wrong.
 const ONE_TRACE: &str = "a trace has one form: --csv, --jsonl or --perfetto";
@@ -88,6 +88,14 @@ impl Subcommand<'_> {
             _ => WorkUnit::Requests,
         }
     }
+
+    /// Whether it has the option `--script`.
+    pub(crate) fn takes_script(&self) -> bool {
+        matches!(
+            self,
+            Subcommand::Show(_) | Subcommand::Page(..) | Subcommand::Check
+        )
+    }
 }
 
 /// Where the input is.
@@ -121,13 +129,19 @@ pub(crate) struct Invocation<'a> {
     pub has_progress: bool,
 }
 
-/// The number that a text is; None if it isn't all digits, or is too long.
+/// The number that a text is; None if it isn't all digits, or is too great.
 fn number_of(digits: &str) -> Option<u64> {
     let is_decimal = digits.as_bytes().iter().all(u8::is_ascii_digit);
-    if is_decimal && digits.len() <= 12 {
-        digits.parse::<u64>().ok()
-    } else {
-        None
+    digits.parse::<u64>().ok().filter(|_number| is_decimal)
+}
+
+/// The alarm of this code.
+fn alarm_of(code: &str) -> Option<Alarm> {
+    match code {
+        "1201" => Some(Alarm::A1201),
+        "1202" => Some(Alarm::A1202),
+        "1203" => Some(Alarm::A1203),
+        _ => None,
     }
 }
 
@@ -140,33 +154,26 @@ fn hundredths_of(text: &str) -> Option<u64> {
         _ => return None,
     };
     let rest = number_of(decimals)?.saturating_mul(tens);
-    let whole = number_of(whole).filter(|_number| !whole.is_empty())?;
-    Some(whole.saturating_mul(100).saturating_add(rest))
+    let whole = number_of(whole)?.saturating_mul(100);
+    Some(whole.saturating_add(rest))
 }
 
 /// The values of a text, such as `KEY:FROM:TO` or `KEY:FROM:TO:STEP`.
 fn values_of(text: &str) -> Option<Values<'_>> {
     let (front, last) = text.rsplit_once(':')?;
     let (key, before) = front.rsplit_once(':')?;
-    let last = number_of(last)?;
-    let before = number_of(before)?;
-    match key.rsplit_once(':') {
-        None => Some(values_from(key, before, last, 1)),
-        Some((name, first)) => match number_of(first) {
-            None => Some(values_from(key, before, last, 1)),
-            Some(first) => Some(values_from(name, first, before, last)),
-        },
-    }
-}
-
-/// The values of a key's number, from one to another by steps.
-fn values_from(key: &str, from: u64, to: u64, step: u64) -> Values<'_> {
-    Values {
+    let (last, before) = (number_of(last)?, number_of(before)?);
+    let (name, first) = key.rsplit_once(':').unwrap_or((key, ""));
+    let (key, from, to, step) = match number_of(first) {
+        None => (key, before, last, 1),
+        Some(first) => (name, first, before, last),
+    };
+    Some(Values {
         key,
         from,
         to,
         step,
-    }
+    })
 }
 
 /// The file that a word names.
@@ -208,33 +215,27 @@ impl<'a, 'b> Words<'a, 'b> {
         }
     }
 
-    /// A number, if it is given. A word that is none is noted.
+    /// The value of a word that is given, as this reads it. One that it can't read is noted.
+    fn value<T>(
+        &mut self,
+        name: &str,
+        reason: &'static str,
+        read: impl Fn(&str) -> Option<T>,
+    ) -> Option<T> {
+        let word = self.given.get_str(name)?;
+        let value = read(word);
+        self.check_word(value.is_some(), reason, Some(word));
+        value
+    }
+
+    /// A number, if it is given.
     fn number(&mut self, name: &str, reason: &'static str) -> Option<u64> {
-        let word = self.given.get_str(name);
-        let number = self.given.get_one::<u64>(name);
-        self.check_word(number.is_some() || word.is_none(), reason, word);
-        number
+        self.value(name, reason, number_of)
     }
 
     /// The alarm that an option names, if it is given.
     fn alarm(&mut self, option: &str, reason: &'static str) -> Option<Alarm> {
-        let text = self.given.get_str(option);
-        let alarm = match text {
-            Some("1201") => Some(Alarm::A1201),
-            Some("1202") => Some(Alarm::A1202),
-            Some("1203") => Some(Alarm::A1203),
-            _ => None,
-        };
-        self.check_word(alarm.is_some() || text.is_none(), reason, text);
-        alarm
-    }
-
-    /// The hundredths of an option's number, if it is given.
-    fn hundredths(&mut self, name: &str, reason: &'static str) -> Option<u64> {
-        let text = self.given.get_str(name)?;
-        let number = hundredths_of(text);
-        self.check_word(number.is_some(), reason, Some(text));
-        number
+        self.value(option, reason, alarm_of)
     }
 
     /// How many columns texts have to fit, if it is given.
@@ -276,8 +277,10 @@ impl<'a, 'b> Words<'a, 'b> {
 
     /// Reads the words after `trace`.
     fn trace(&mut self) -> Subcommand<'a> {
-        let from = self.hundredths("from", "--from wants a number with at most two decimals");
-        let to = self.hundredths("to", "--to wants a number with at most two decimals");
+        let reason = "--from wants a number with at most two decimals";
+        let from = self.value("from", reason, hundredths_of);
+        let reason = "--to wants a number with at most two decimals";
+        let to = self.value("to", reason, hundredths_of);
         let is_right = from.unwrap_or(0) <= to.unwrap_or(u64::MAX);
         self.check(is_right, "--from is beyond --to");
         let choice = TraceOptions {
@@ -305,19 +308,15 @@ impl<'a, 'b> Words<'a, 'b> {
         Subcommand::Page(view, self.given.get_str("workbench"))
     }
 
-    /// A number of requests, if it is given.
-    fn requests(&mut self, name: &str, reason: &'static str) -> Option<u16> {
-        let word = self.given.get_str(name);
-        let number = self.given.get_one::<u64>(name);
-        let short = number.and_then(|number| u16::try_from(number).ok());
-        self.check_word(short.is_some() || word.is_none(), reason, word);
-        short
-    }
-
     /// The number of requests between two ticks.
     fn ticks(&mut self) -> TickBounds {
-        let least = self.requests("least", "--least wants a whole number up to 65535");
-        let most = self.requests("most", "--most wants a whole number up to 65535");
+        let requests = |word: &str| u16::try_from(number_of(word)?).ok();
+        let least = self.value(
+            "least",
+            "--least wants a whole number up to 65535",
+            requests,
+        );
+        let most = self.value("most", "--most wants a whole number up to 65535", requests);
         let least = least.unwrap_or(0);
         let is_right = least <= most.unwrap_or(u16::MAX);
         self.check(is_right, "--least is beyond --most");
@@ -352,11 +351,12 @@ impl<'a, 'b> Words<'a, 'b> {
     /// The step of a sweep. The word after its values is the file, if it is no number.
     fn step(&mut self) -> u64 {
         let word = self.given.get_str("step");
-        match self.given.get_one::<u64>("step") {
+        match word.and_then(number_of) {
             Some(step) => step,
             None if word.is_none() => 1,
             None => {
-                let is_file = self.given.get_str("file").is_none();
+                let is_number = word.is_some_and(|word| word.starts_with('-') && word != "-");
+                let is_file = self.given.get_str("file").is_none() && !is_number;
                 self.check_word(is_file, "STEP wants a whole number (FILE comes last)", word);
                 self.file = file_of(word);
                 1
@@ -373,7 +373,13 @@ impl<'a, 'b> Words<'a, 'b> {
         let step = self.step();
         self.check(step > 0, "STEP is 0");
         self.check(from <= to, "FROM is beyond TO");
-        values_from(self.given.get_str("key").unwrap_or(""), from, to, step)
+        let key = self.given.get_str("key").unwrap_or("");
+        Values {
+            key,
+            from,
+            to,
+            step,
+        }
     }
 
     /// The values of the second number of a sweep, if it is given.
@@ -406,10 +412,10 @@ impl<'a, 'b> Words<'a, 'b> {
 
     /// Reads the words after `compare`: one of the two documents may be standard input.
     fn compare(&mut self) -> Subcommand<'a> {
-        let second = self.given.get_str("second").unwrap_or("-");
-        let is_named = self.file.is_some() || second != "-";
-        self.check(is_named, "FIRST and SECOND can't both be standard input");
-        Subcommand::Compare(second, self.form(ONE_FORM))
+        let after = self.given.get_str("after").unwrap_or("-");
+        let is_named = self.file.is_some() || after != "-";
+        self.check(is_named, "BEFORE and AFTER can't both be standard input");
+        Subcommand::Compare(after, self.form(ONE_FORM))
     }
 
     /// Reads the words after the name of a command.
@@ -468,20 +474,11 @@ fn parse_matches<'a>(
     }
 }
 
-/// A reason, and the word that isn't what it wants.
-fn reason_with(alloc: Global, reason: &str, word: &str) -> Result<String, AllocError> {
-    let mut text = String::from_str(alloc, reason)?;
-    text.push_str(", not '")?;
-    text.push_str(word)?;
-    text.push_str("'")?;
-    Ok(text)
-}
-
 /// Words after this command that have this fault.
 fn refused_word(alloc: Global, command: &str, fault: WordFault<'_>) -> Stop {
     match fault.word {
         None => refused_words(alloc, command, fault.reason),
-        Some(word) => match reason_with(alloc, fault.reason, word) {
+        Some(word) => match format!(in alloc; "{}, not '{word}'", fault.reason) {
             Ok(reason) => refused_words(alloc, command, reason.as_str()),
             Err(_no_memory) => Stop::ProgramFault(ProgramFault::NoMemory),
         },
@@ -490,38 +487,9 @@ fn refused_word(alloc: Global, command: &str, fault: WordFault<'_>) -> Stop {
 
 /// Words after this command that are wrong for a reason that `clap` doesn't know.
 pub(crate) fn refused_words(alloc: Global, command: &str, reason: &str) -> Stop {
-    match named_command(alloc, command) {
-        Ok(mut command) => refused_as(&mut command, reason),
-        Err(_no_memory) => Stop::ProgramFault(ProgramFault::NoMemory),
-    }
-}
-
-/// Words that are wrong for a reason that `clap` doesn't know.
-fn refused_as(command: &mut Command<'_>, reason: &str) -> Stop {
-    match command.error(ErrorKind::ValueValidation, reason) {
+    match error_of(alloc, command, reason) {
         Ok(error) => Stop::Words(error),
         Err(_no_memory) => Stop::ProgramFault(ProgramFault::NoMemory),
-    }
-}
-
-/// Words that `clap` doesn't take as a task.
-fn refused_by(error: Error) -> Stop {
-    match error.kind() {
-        ErrorKind::OutOfMemory => Stop::ProgramFault(ProgramFault::NoMemory),
-        _ => Stop::Words(error),
-    }
-}
-
-/// Reads these words.
-fn read<'a>(
-    alloc: Global,
-    program: &mut Command<'a>,
-    words: &'a [String],
-    folds: bool,
-) -> Result<Invocation<'a>, Stop> {
-    match program.try_get_matches_from_mut(words) {
-        Ok(matches) => parse_matches(alloc, &matches, folds),
-        Err(error) => Err(refused_by(error)),
     }
 }
 
@@ -537,8 +505,12 @@ pub(crate) fn parse_words<'a>(
     words: &'a [String],
     folds: bool,
 ) -> Result<Invocation<'a>, Stop> {
-    match whole_command(alloc) {
-        Ok(mut command) => read(alloc, &mut command, words, folds),
-        Err(_no_memory) => Err(Stop::ProgramFault(ProgramFault::NoMemory)),
+    let mut program = whole_command(alloc)?;
+    match program.try_get_matches_from_mut(words) {
+        Ok(matches) => parse_matches(alloc, &matches, folds),
+        Err(error) if error.kind() == ErrorKind::OutOfMemory => {
+            Err(Stop::ProgramFault(ProgramFault::NoMemory))
+        }
+        Err(error) => Err(Stop::Words(error)),
     }
 }

@@ -1,25 +1,22 @@
 //! The work of each command on its input.
-use crate::checking::{check_document, check_script};
-use crate::documents::{bench_in, document_in, explored_in, scenario_in};
+use crate::checking::check;
+use crate::documents::{document_in, explored_in, say_run_once, scenario_in};
 use crate::files::text_of;
 use crate::page::{PageDocument, PageView, put_page};
 use crate::program::Console;
-use crate::stops::{Stop, UNDECIDED, YES, join_words, stop_with};
+use crate::stops::{Stop, UNDECIDED, YES, stop_with};
 use crate::sweeping::write_sweep;
 use crate::words::{Input as Source, Invocation, Show, Subcommand};
 use crate::workbench::Workbench;
 use agc_check::{ExploredBench, NamedText};
 use agc_explore::{Exploration, ExploreOptions, ReachStatus, explore, with_endless};
 use agc_peaks::{RunSummary, put_differences, scenario_bench, summary_of, write_jobs, write_peaks};
-use agc_play::{PlayFault, PlayOptions, play};
-use agc_program::ProgramFault;
-use agc_run::Subject;
-use agc_scenario::Scenario;
+use agc_play::{PlayOptions, play};
+use agc_program::{ProgramFault, flush_output};
 use agc_table::TableForm;
 use agc_text::{MOST_BYTES, ReadFault};
 use agc_trace::trace;
-use std::alloc::Global;
-use std::io::{Input, Write};
+use std::io::Input;
 
 /// Writes the page of the bench or the scenario that a text is, which opens in this view. The exit
 /// status is 0.
@@ -31,38 +28,32 @@ fn write_page(
     let alloc = console.rt.alloc();
     let _document = document_in(console.rt, input)?;
     let workbench = Workbench::find(console.rt, named)?;
-    if put_page(
-        alloc,
-        workbench.text().as_bytes(),
-        PageDocument {
-            text: input.text,
-            view,
-        },
-        &mut console.output,
-    )? {
+    let document = PageDocument {
+        text: input.text,
+        view,
+    };
+    let bytes = workbench.text().as_bytes();
+    if put_page(alloc, bytes, document, &mut console.output)? {
         Ok(0)
     } else {
         Err(workbench.is_none(alloc))
     }
 }
 
-/// Shows this of a bench or a scenario.
-fn show_subject(console: &mut Console<'_>, show: Show, subject: Subject<'_>) -> Result<(), Stop> {
-    let alloc = console.rt.alloc();
+/// Shows this of the bench or the scenario that a text is. The exit status is 0.
+fn show_document(console: &mut Console<'_>, show: Show, input: NamedText<'_>) -> Result<u8, Stop> {
+    let document = document_in(console.rt, input)?;
+    let (alloc, subject) = (console.rt.alloc(), document.subject());
     let (progress, output) = (&mut console.progress, &mut console.output);
     let shown = match show {
         Show::Peaks(form) => write_peaks(alloc, subject, form, output),
         Show::Jobs(form, eras) => write_jobs(alloc, subject, (form, eras), output),
         Show::Trace(choice) => trace(alloc, subject, choice, progress, output).map(|_watched| ()),
     };
-    Ok(shown?)
-}
-
-/// Shows this of the bench or the scenario that a text is. The exit status is 0.
-fn show_document(console: &mut Console<'_>, show: Show, input: NamedText<'_>) -> Result<u8, Stop> {
-    let shown = document_in(console.rt, input)?;
-    show_subject(console, show, shown.subject())?;
-    Ok(0)
+    match shown {
+        Ok(()) => Ok(0),
+        Err(fault) => Err(Stop::from(fault)),
+    }
 }
 
 /// Says on standard error that no bench is written, if one was asked for.
@@ -115,16 +106,6 @@ fn explore_bench(
     report_orders(console, options, &explored)
 }
 
-/// Why play ended early.
-fn play_stop(alloc: Global, fault: PlayFault) -> Stop {
-    match fault {
-        PlayFault::NoMemory => Stop::ProgramFault(ProgramFault::NoMemory),
-        PlayFault::Input => stop_with(alloc, 4, &["-: a read failed"]),
-        PlayFault::TooLong => Stop::ProgramFault(ProgramFault::Read(ReadFault::TooLong)),
-        PlayFault::Output => Stop::ProgramFault(ProgramFault::Output),
-    }
-}
-
 /// Answers the lines of standard input, from a bench on. The exit status is 0.
 fn play_bench(
     console: &mut Console<'_>,
@@ -132,66 +113,61 @@ fn play_bench(
     input: NamedText<'_>,
 ) -> Result<u8, Stop> {
     let (rt, output) = (console.rt, &mut console.output);
-    let bench = bench_in(rt, input)?;
-    match play(rt, &bench, rules, &mut rt.reader(), output) {
+    let explored = explored_in(rt.alloc(), input)?;
+    say_run_once(rt, input, &explored);
+    match play(rt, &explored.bench, rules, &mut rt.reader(), output) {
         Ok(()) => Ok(0),
-        Err(fault) => Err(play_stop(rt.alloc(), fault)),
-    }
-}
-
-/// Writes a scenario as a bench. The exit status is 0.
-fn write_bench_from(console: &mut Console<'_>, scenario: &Scenario) -> Result<u8, Stop> {
-    let bytes = scenario_bench(console.rt.alloc(), scenario, &mut console.output)?;
-    if bytes <= MOST_BYTES as u64 {
-        return Ok(0);
-    }
-    match console.output.flush() {
-        Ok(()) => Err(Stop::TooLong(bytes)),
-        Err(_failed) => Err(Stop::ProgramFault(ProgramFault::Output)),
+        Err(ProgramFault::Read(ReadFault::Input)) => {
+            Err(stop_with(4, String::from_str(rt.alloc(), "-: a read failed")))
+        }
+        Err(fault) => Err(Stop::ProgramFault(fault)),
     }
 }
 
 /// Writes an input's scenario as a bench. The exit status is 0.
 fn write_bench(console: &mut Console<'_>, input: NamedText<'_>) -> Result<u8, Stop> {
-    let scenario = scenario_in(console.rt.alloc(), input)?;
-    write_bench_from(console, &scenario)
+    let alloc = console.rt.alloc();
+    let scenario = scenario_in(alloc, input)?;
+    let bytes = scenario_bench(alloc, &scenario, &mut console.output)?;
+    if bytes <= MOST_BYTES as u64 {
+        return Ok(0);
+    }
+    flush_output(&mut console.output)?;
+    let sentence = format!(in alloc; "the bench has {bytes} bytes, and agc takes {MOST_BYTES}");
+    Err(stop_with(1, sentence))
 }
 
 /// The summary of the run of an input's document.
 fn summary_in(rt: &HostRuntime, input: NamedText<'_>) -> Result<RunSummary, Stop> {
-    let runnable = document_in(rt, input)?;
-    match summary_of(rt.alloc(), runnable.subject()) {
+    let document = document_in(rt, input)?;
+    match summary_of(rt.alloc(), document.subject()) {
         Ok(summary) => Ok(summary),
         Err(fault) => Err(Stop::from(fault)),
     }
-}
-
-/// The summary of the run of the document that is the text of a file of this name.
-fn summary_of_file(rt: &HostRuntime, name: &str, text: &str) -> Result<RunSummary, Stop> {
-    let before_line = join_words(rt.alloc(), &[name, ":"])?;
-    let input = NamedText {
-        before_line: before_line.as_str(),
-        text,
-    };
-    summary_in(rt, input)
 }
 
 /// Writes what differs between an input's document and that of a file. The exit status says whether
 /// they differ.
 fn compare_with(
     console: &mut Console<'_>,
-    (second, form): (&str, TableForm),
+    (after, form): (&str, TableForm),
     input: NamedText<'_>,
 ) -> Result<u8, Stop> {
     let (rt, output) = (console.rt, &mut console.output);
-    let first = summary_in(rt, input)?;
-    let file = match second {
+    let before = summary_in(rt, input)?;
+    let file = match after {
         "-" => Source::Standard,
         name => Source::File(name),
     };
     let text = text_of(rt, file)?;
-    let other = summary_of_file(rt, second, text.as_str())?;
-    let documents = [(input.text, &first), (text.as_str(), &other)];
+    let before_line = format!(in rt.alloc(); "{after}:")?;
+    let other = NamedText {
+        before_line: before_line.as_str(),
+        text: text.as_str(),
+        takes_script: false,
+    };
+    let summary = summary_in(rt, other)?;
+    let documents = [(input.text, &before), (other.text, &summary)];
     match put_differences(rt.alloc(), documents, form, output) {
         Ok(true) => Ok(YES),
         Ok(false) => Ok(0),
@@ -212,8 +188,7 @@ pub(crate) fn work(
     match asked.subcommand {
         Subcommand::Show(show) => show_document(console, show, input),
         Subcommand::Page(view, named) => write_page(console, (view, named), input),
-        Subcommand::Check if asked.is_script => check_script(console, input),
-        Subcommand::Check => check_document(console, input),
+        Subcommand::Check => check(console, input, asked.is_script),
         Subcommand::Explore(options) => explore_bench(console, options, input),
         Subcommand::Play => play_bench(console, rules, input),
         Subcommand::Bench => write_bench(console, input),

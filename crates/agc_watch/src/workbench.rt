@@ -1,7 +1,7 @@
 //! The workbench, a file that a page is made of: where it is, and whether it is of this version.
 use crate::commands::VERSION;
 use crate::files::{read_file, unread};
-use crate::stops::{Stop, join_words, stop_with};
+use crate::stops::{Stop, stop_with};
 use agc_program::ProgramFault;
 use agc_text::{ReadFault, read_all};
 use std::alloc::{AllocError, Global};
@@ -24,9 +24,9 @@ pub(crate) struct Workbench {
 fn places_of(alloc: Global, program: &str) -> Result<Vec<String>, AllocError> {
     let mut places = Vec::new(alloc);
     if let Some((folder, _name)) = program.rsplit_once('/') {
-        places.push(join_words(alloc, &[folder, "/workbench.html"])?)?;
+        places.push(format!(in alloc; "{folder}/workbench.html")?)?;
         if let Some((above, _bin)) = folder.rsplit_once('/') {
-            places.push(join_words(alloc, &[above, "/share/agc/workbench.html"])?)?;
+            places.push(format!(in alloc; "{above}/share/agc/workbench.html")?)?;
         }
     }
     Ok(places)
@@ -48,21 +48,18 @@ fn places(rt: &HostRuntime) -> Result<Vec<String>, AllocError> {
 
 /// That no workbench is at these places.
 fn missing(alloc: Global, places: &[String]) -> Stop {
-    let begin = "no workbench";
-    let end = ": name one by --workbench or AGC_WORKBENCH";
-    match places {
-        [] => stop_with(alloc, 4, &[begin, end]),
-        [only] => stop_with(alloc, 4, &[begin, " at ", only.as_str(), end]),
-        [first, second, ..] => {
-            let words = [begin, " at ", first.as_str(), " or ", second.as_str(), end];
-            stop_with(alloc, 4, &words)
-        }
-    }
+    let end = "name one by --workbench or AGC_WORKBENCH";
+    let sentence = match places {
+        [] => format!(in alloc; "no workbench: {end}"),
+        [only] => format!(in alloc; "no workbench at {only}: {end}"),
+        [first, second, ..] => { format!(in alloc; "no workbench at {first} or {second}: {end}") }
+    };
+    stop_with(4, sentence)
 }
 
 /// That the file of this name is no workbench.
 fn not_one(alloc: Global, name: &str) -> Stop {
-    stop_with(alloc, 1, &[name, " is not an empty AGC workbench"])
+    stop_with(1, format!(in alloc; "{name} is not an empty AGC workbench"))
 }
 
 /// Whether a text is of digits and dots alone.
@@ -92,9 +89,11 @@ fn check_version(alloc: Global, name: &str, text: &str) -> Result<(), Stop> {
             if version == VERSION {
                 return Ok(());
             }
-            let is = " is the workbench of version ";
-            let words = [name, is, version, ", and this is version ", VERSION];
-            Err(stop_with(alloc, 1, &words))
+            let is = "is the workbench of version";
+            let sentence = format!(in alloc;
+                "{name} {is} {version}, and this is version {VERSION}"
+            );
+            Err(stop_with(1, sentence))
         }
     }
 }
@@ -105,7 +104,7 @@ fn workbench_of(alloc: Global, name: &str, bytes: &[u8]) -> Result<Workbench, St
     match read_all(alloc, &mut unread) {
         Ok(text) => {
             check_version(alloc, name, text.as_str())?;
-            let name = join_words(alloc, &[name])?;
+            let name = String::from_str(alloc, name)?;
             Ok(Workbench { name, text })
         }
         Err(ReadFault::NoMemory) => Err(Stop::ProgramFault(ProgramFault::NoMemory)),
