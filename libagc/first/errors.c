@@ -31,6 +31,6 @@ int main(void) {
     if (told.code != AGC_OK && length.code == AGC_OK)
         printf("%s %u is %05o: %.*s\n", agc_place_name(told.place), agc_place_number(told.place),
                told.found, (int)length.number, rule);
-    if (told.wanted != AGC_ANY) printf("It would have to be %05o.\n", told.wanted);
+    if (told.wanted != AGC_ANY) printf("It should be %05o.\n", told.wanted);
     return 0;
 }

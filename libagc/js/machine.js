@@ -280,7 +280,7 @@ function integer(what, given, low = 0, high = MOST, code = Code.OUT_OF_RANGE, di
   if (!Number.isSafeInteger(given) && !(typeof given === "bigint" && typeof high === "bigint")) throw wrong(what, "an integer", given);
   if (number >= low && number <= high) return number;
   const [is, least, most] = [number, low, high].map((it) => it.toString(digits === 0 ? 10 : 8));
-  throw fault(code, what, ` is ${is}${digits === 0 ? "" : " (octal)"}, and may be ${least} to ${most}`);
+  throw fault(code, what, ` is ${is}${digits === 0 ? "" : " (octal)"}, but must be ${least} to ${most}`);
 }
 
 /** A word or an address: a number, or its five octal digits. @param {string | Place} what @param {unknown} given @param {string} letter @param {string} code */
@@ -329,7 +329,7 @@ function items(what, given, of, low = 0, high = MOST, code = Code.OUT_OF_RANGE) 
   const { length } = given;
   if (length >= low && length <= high) return Array.from(given);
   const many = low === Number(high) ? `${low}` : low === 0 ? `at most ${high}` : `${low} to ${high}`;
-  throw fault(code, what, ` must have ${many} ${of}, and has ${length}`);
+  throw fault(code, what, ` must have ${many} ${of}, but has ${length}`);
 }
 
 /** @type {Record<string, string[]>} */
@@ -431,7 +431,7 @@ function documentOf(what, given, keys) {
 function centiseconds(what, seconds) {
   if (typeof seconds !== "number") throw wrong(what, "a number", seconds);
   if (!(seconds >= 0 && seconds <= LAST_TIME / 100)) {
-    throw fault(TIME_RANGE, what, ` is ${seconds}, and may be 0 to ${LAST_TIME / 100}`);
+    throw fault(TIME_RANGE, what, ` is ${seconds}, but must be 0 to ${LAST_TIME / 100}`);
   }
   const found = Math.round(100 * seconds);
   if (Math.abs(100 * seconds - found) < 1e-6) return found;
@@ -930,7 +930,7 @@ export function pulseOf(line, plan = {}) {
   isStarted();
   if (typeof line !== "string") throw wrong("line", "a string", line);
   if (!DEVICES.includes(line)) {
-    throw new AgcError(Code.OUT_OF_RANGE, `line is ${shown(line)}, and may be ${DEVICES.slice(0, -1).join(", ")} or ${DEVICES.at(-1)}`);
+    throw new AgcError(Code.OUT_OF_RANGE, `line is ${shown(line)}, but must be ${DEVICES.slice(0, -1).join(", ")} or ${DEVICES.at(-1)}`);
   }
   known(new Place("a plan of pulses"), plan, DOCUMENT);
   const [key, radar] = [plan.key, plan.radar].map((it, k) =>
@@ -964,7 +964,7 @@ function stolenOf(steal = 0) {
  */
 function costOf({ at, cost, then = [[0, 0]] }, k, requests) {
   const { from, to } = typeof cost === "number" ? { from: cost, to: cost } : cost;
-  if (from > to) throw fault(TIME_RANGE, keyAt(`job ${k + 1}`, "cost"), `: to is ${to}, and may not be less than from, ${from}`);
+  if (from > to) throw fault(TIME_RANGE, keyAt(`job ${k + 1}`, "cost"), `: to is ${to}, but must not be less than from, ${from}`);
   const first = requests.length;
   requests.push(...then.slice(0, -1));
   // (of an end the address is 0)
@@ -1276,7 +1276,7 @@ function findingIn(words, sets) {
   const [found, wanted] = [words[place], right === NUMBERS.ANY ? null : right];
   if (rule !== 0) calls.agc_write_rule(to.answer, rule, to.text, BigInt(SIZE.text));
   const why = rule !== 0 ? textAt(at.answer) : code === Code.NOT_NOW ? "a task is due" : "no request leaves it so";
-  const other = wanted === null ? "" : `, and would have to be ${octal(wanted)}`;
+  const other = wanted === null ? "" : `, but should be ${octal(wanted)}`;
   return { code, rule, place, found, wanted, text: `${PLACES[place]} (word ${place}) is ${found < 0 ? found : octal(found)}${other}: ${why}` };
 }
 

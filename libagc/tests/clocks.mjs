@@ -140,7 +140,7 @@ function keeps() {
   for (const then of [[], [...Array(8).fill("prio 07"), "end"]]) {
     let found = null;
     try { new Clock({ job: [{ at: "04000", cost: 2, then }] }); } catch (fault) { found = fault; }
-    want(found?.message === `job 1: then must have 1 to 8 lines, and has ${then.length}`, `${then.length} steps`);
+    want(found?.message === `job 1: then must have 1 to 8 lines, but has ${then.length}`, `${then.length} steps`);
   }
   // With seed 1 the first lots are 48271 and 182605794: costs of 131 and 208 hundredths, of 100 to 300.
   const lots = { seed: 1, job: [{ at: "04000", cost: { from: 1, to: 3 } }], event: [{ ...timetable.event[0], every: 4 }] };

@@ -181,7 +181,7 @@ fn asks() -> Result<(), AgcError> {
     assert_eq!(lines(pulse_of(Device::Key, &["nothing", "rouse 02100"], &[])?), ["rouse 02100"]);
     assert_eq!(lines(pulse_of(Device::Timer, &[], &[])?), ["tick"]);
     let told = |found: Result<Vec<AgcRequest>, AgcError>| found.unwrap_err().to_string();
-    assert_eq!(told(pulse_of(Device::Key, &["nothing"; 5], &[])), "a pulse: key must have 1 to 4 lines, and has 5");
+    assert_eq!(told(pulse_of(Device::Key, &["nothing"; 5], &[])), "a pulse: key must have 1 to 4 lines, but has 5");
     let action = r#"a pulse: radar 2: "end": an action is nothing, or begins with novac, findvac, rouse or list"#;
     assert_eq!(told(pulse_of(Device::Key, &[], &["nothing", "end"])), action);
     assert_eq!((refusal_of("tick", &of(9, 5))?, refusal_of("restart", &of(9, 5))?), (Code::LogFull, Code::Ok));
@@ -211,33 +211,33 @@ fn messages() -> Result<(), AgcError> {
     let (none, job) = (|| Timetable::new(1), Timetable::new(1).job(0o4000, 3, "end")?);
     let event = Timetable::new(1).event(1, None, None, &["tick"])?;
     for (made, told) in [
-        (none().job_asks(0o4000, 1, &["prio 07"; 8], "end"), "job 1: then must have 1 to 8 lines, and has 9"),
+        (none().job_asks(0o4000, 1, &["prio 07"; 8], "end"), "job 1: then must have 1 to 8 lines, but has 9"),
         // 2^32 hundredths and four aren't cut to four.
-        (none().job(0o4000, 42_949_673, "end"), "job 1: cost is 42949673, and may be 1 to 1000000"),
-        (job.clone().job(0, 1, "end"), "job 2: at is 0 (octal), and may be 1 to 37777"),
+        (none().job(0o4000, 42_949_673, "end"), "job 1: cost is 42949673, but must be 1 to 1000000"),
+        (job.clone().job(0, 1, "end"), "job 2: at is 0 (octal), but must be 1 to 37777"),
         (none().job(1, 1, "tick"), r#"job 1: then 1: "tick": a job leaves by end or sleep"#),
-        (none().seed(0), "a timetable: seed is 0, and may be 1 to 2147483646"),
-        (none().seed(u32::MAX), "a timetable: seed is 4294967295, and may be 1 to 2147483646"),
+        (none().seed(0), "a timetable: seed is 0, but must be 1 to 2147483646"),
+        (none().seed(u32::MAX), "a timetable: seed is 4294967295, but must be 1 to 2147483646"),
         (none().at_least(1), "at_least is about the job before it, and there is none"),
-        (job.clone().at_least(0), "job 1: at_least is 0, and may be 1 to 3"),
-        (job.clone().at_least(4), "job 1: at_least is 4, and may be 1 to 3"),
+        (job.clone().at_least(0), "job 1: at_least is 0, but must be 1 to 3"),
+        (job.clone().at_least(4), "job 1: at_least is 4, but must be 1 to 3"),
         (job.clone().after(0o1201), "after is about the event before it, and there is none"),
-        (event.clone().after(5), "event 1: after is 5 (octal), and may be 1201 to 1203"),
-        (event.event(8_640_001, None, None, &["tick"]), "event 2: at is 8640001, and may be 0 to 8640000"),
-        (none().event(1, Some(0), None, &["tick"]), "event 1: every is 0, and may be 1 to 8640000"),
-        (none().event(1, Some(1), Some(8_640_001), &["tick"]), "event 1: until is 8640001, and may be 0 to 8640000"),
-        (none().event(1, None, None, &[]), "event 1: do must have 1 to 16 lines, and has 0"),
+        (event.clone().after(5), "event 1: after is 5 (octal), but must be 1201 to 1203"),
+        (event.event(8_640_001, None, None, &["tick"]), "event 2: at is 8640001, but must be 0 to 8640000"),
+        (none().event(1, Some(0), None, &["tick"]), "event 1: every is 0, but must be 1 to 8640000"),
+        (none().event(1, Some(1), Some(8_640_001), &["tick"]), "event 1: until is 8640001, but must be 0 to 8640000"),
+        (none().event(1, None, None, &[]), "event 1: do must have 1 to 16 lines, but has 0"),
         (none().event(1, None, None, &["tick", "tick\n"]), r#"event 1: do 2: "tick\n": it has a line's end; give the line without it"#),
         (none().steal(9, 9, 1), "steal 1: to is 9, and must be above from, 9"),
-        (none().steal(0, 9, 101), "steal 1: percent is 101, and may be 0 to 100"),
-        (none().steal_every(0, 5, 10, Some(8_640_001), None), "steal 1: every is 8640001, and may be 1 to 8640000"),
+        (none().steal(0, 9, 101), "steal 1: percent is 101, but must be 0 to 100"),
+        (none().steal_every(0, 5, 10, Some(8_640_001), None), "steal 1: every is 8640001, but must be 1 to 8640000"),
         (none().steal_every(0, 9, 1, Some(8), None), "steal 1: every is 8, and must be as long as the row lasts, 9, or longer"),
     ] {
         assert_eq!(made.unwrap_err().to_string(), told);
     }
     let told = |made: Timetable| Clock::new(made).unwrap_err().to_string();
     assert_eq!(told(job.at_least(1)?), "job 1: cost is by lot, and there is no seed");
-    assert_eq!(told(Timetable::new(86401)), "a timetable: seconds is 86401, and may be 0 to 86400");
+    assert_eq!(told(Timetable::new(86401)), "a timetable: seconds is 86401, but must be 0 to 86400");
     let twice = none().steal(9, 12, 1)?.steal(0, 10, 1)?;
     assert_eq!(told(twice), "steal 2: it overlaps row 1");
     let twice = (1..=3).chain([2]).try_fold(none(), |made, at| made.job(at, 1, "end"))?;
@@ -248,7 +248,7 @@ fn messages() -> Result<(), AgcError> {
     let error = none().event(8_640_001, None, None, &["tick"]).unwrap_err();
     assert_eq!((error.row.as_deref(), error.key.as_deref()), (Some("event 1"), Some("at")));
     let state = |alarms| ClockState { clock: AgcClock::default(), alarms };
-    for (alarm, told) in [((5, 1), "alarms: code is 5 (octal), and may be 1201 to 1203"), ((0o1202, 8_640_001), "alarms: 1202 is 8640001, and may be 0 to 8640000")] {
+    for (alarm, told) in [((5, 1), "alarms: code is 5 (octal), but must be 1201 to 1203"), ((0o1202, 8_640_001), "alarms: 1202 is 8640001, but must be 0 to 8640000")] {
         assert_eq!(Clock::of_state(&state(vec![alarm]), none()).unwrap_err().to_string(), told);
     }
     let clock = Clock::new(Timetable::new(2).job(1, 1, "end")?)?;

@@ -42,13 +42,13 @@ function thrown(kind, call, told) {
 
 function timeGoesOn() {
   const [machine, clock] = [new Machine(), new Clock()];
-  thrown(AgcError, () => machine.run(clock, -1), "centiseconds is -1, and may be 0 to 4294967295");
+  thrown(AgcError, () => machine.run(clock, -1), "centiseconds is -1, but must be 0 to 4294967295");
   thrown(TypeError, () => machine.run(clock, 2.5), "centiseconds must be an integer, not 2.5");
   want(machine.run(clock, 0) === 0 && clock.time === 0 && machine.run(clock, 3) === 3, "a run");
   want(new Clock({ seconds: 86400 }).lasts === 8640000 && new Clock({ seconds: 0.29 }).lasts === 29, "a day");
-  thrown(AgcError, () => new Clock({ seconds: 86401 }), "a timetable: seconds is 86401, and may be 0 to 86400");
+  thrown(AgcError, () => new Clock({ seconds: 86401 }), "a timetable: seconds is 86401, but must be 0 to 86400");
   thrown(AgcError, () => new Clock({ seconds: 0.125 }), "a timetable: seconds must be whole centiseconds, and is 0.125");
-  thrown(AgcError, () => new Clock({ seconds: Number.NaN }), "a timetable: seconds is NaN, and may be 0 to 86400");
+  thrown(AgcError, () => new Clock({ seconds: Number.NaN }), "a timetable: seconds is NaN, but must be 0 to 86400");
   for (const seconds of ["", [], true, null, "5"]) {
     thrown(AgcError, () => new Clock({ seconds }), `a timetable: seconds must be a number, not ${JSON.stringify(seconds)}`);
   }
@@ -90,8 +90,8 @@ function boundsRefuse() {
   const bounds = { served: 0, allowance: 1, logged: 0, limit: 1 };
   want(refusalOf(new agc.Asked("prio", [1], null), bounds) === Code.OK, "what a clock gave");
   thrown(AgcError, () => refusalOf("tock", bounds), '"tock": its first word is unknown; did you mean "tick"?');
-  thrown(AgcError, () => refusalOf("tick", { ...bounds, allowance: 2n ** 64n }), "bounds: allowance is 18446744073709551616, and may be 0 to 18446744073709551615");
-  thrown(AgcError, () => refusalOf("tick", { ...bounds, logged: -1 }), "bounds: logged is -1, and may be 0 to 4294967295");
+  thrown(AgcError, () => refusalOf("tick", { ...bounds, allowance: 2n ** 64n }), "bounds: allowance is 18446744073709551616, but must be 0 to 18446744073709551615");
+  thrown(AgcError, () => refusalOf("tick", { ...bounds, logged: -1 }), "bounds: logged is -1, but must be 0 to 4294967295");
   thrown(TypeError, () => refusalOf("tick", { served: 0 }), "bounds must be a plain object with served, allowance, logged, limit, and allowance is missing");
 }
 
@@ -107,8 +107,8 @@ function pulsesAsk() {
   want(same(pulseOf("radar", { radar: "list 16250 37777 77777" }), ["list 16250 37777 77777"]), "a radar");
   const four = new Array(4).fill("findvac 01 00001 00000");
   want(same(pulseOf("key", { key: four }), four), "four actions");
-  thrown(AgcError, () => pulseOf("key", { key: [...four, "nothing"] }), "a pulse: key must have 1 to 4 lines, and has 5");
-  thrown(AgcError, () => pulseOf("bell"), 'line is "bell", and may be timer, key or radar');
+  thrown(AgcError, () => pulseOf("key", { key: [...four, "nothing"] }), "a pulse: key must have 1 to 4 lines, but has 5");
+  thrown(AgcError, () => pulseOf("bell"), 'line is "bell", but must be timer, key or radar');
   thrown(AgcError, () => pulseOf("key", { key: "tick" }), 'a pulse: key 1: "tick": an action is nothing, or begins with novac, findvac, rouse or list');
   want(machine.ask("tick").fired.length === 1 && machine.scene().sets[0].at === 0o4000, "the machine goes on");
 }
@@ -149,15 +149,15 @@ function keysAreKnown() {
     [plan({ script: 7 }), WRONG_TYPE, null, "script", "a plan: script must be an array of lines, not 7"],
     [plan({ worker: "x" }), WRONG_TYPE, null, "worker", "a plan: worker is an array of tables: write [[worker]]"],
     [plan({ worker: [{ script: [], repeat: 1 }] }), WRONG_TYPE, "worker 1", "repeat", "worker 1: repeat must be true or false, not 1"],
-    [plan({ limit: -5 }), PLAN_RANGE, null, "limit", "a plan: limit is -5, and may be 1 to 1000000"],
-    [plan({ power: ["bad"] }), NOT_WORDS, null, "power", "a plan: power must have 12 words, and has 1"],
+    [plan({ limit: -5 }), PLAN_RANGE, null, "limit", "a plan: limit is -5, but must be 1 to 1000000"],
+    [plan({ power: ["bad"] }), NOT_WORDS, null, "power", "a plan: power must have 12 words, but has 1"],
     [plan({ device: [{ line: "bell" }] }), PLAN_RANGE, "device 1", "line", 'device 1: line: "bell": a line is timer, key or radar'],
-    [clock({ event: new Array(1001).fill(event) }), OUT_OF_RANGE, null, "event", "a timetable: event must have at most 1000 tables, and has 1001"],
-    [clock({ job: new Array(101).fill(job) }), OUT_OF_RANGE, null, "job", "a timetable: job must have at most 100 tables, and has 101"],
+    [clock({ event: new Array(1001).fill(event) }), OUT_OF_RANGE, null, "event", "a timetable: event must have at most 1000 tables, but has 1001"],
+    [clock({ job: new Array(101).fill(job) }), OUT_OF_RANGE, null, "job", "a timetable: job must have at most 100 tables, but has 101"],
     [clock({ event: [{ ...event, name: "a\nb" }] }), TIME_RANGE, "event 1", "name", 'event 1: name: "a\\nb": a name is one line, without control characters'],
     [() => new Machine({ sets: "7" }), WRONG_TYPE, null, "sets", 'a machine: sets must be an integer, not "7"'],
     [() => new Machine({ power: new Array(12).fill(null) }), WRONG_TYPE, null, "power", "a machine: power 1 must be an integer or five octal digits, not null"],
-    [() => new Machine({ power: new Array(12).fill(32768) }), NOT_WORDS, null, "power", "a machine: power 1 is 100000 (octal), and may be 0 to 77777"],
+    [() => new Machine({ power: new Array(12).fill(32768) }), NOT_WORDS, null, "power", "a machine: power 1 is 100000 (octal), but must be 0 to 77777"],
     [() => pulseOf("key", { key: 5 }), WRONG_TYPE, null, "key", "a pulse: key must be an array of lines, not 5"],
     [() => Machine.ofState({ ...new Machine().state, totals: 5 }), WRONG_TYPE, "totals", null, "totals must be a plain object, not 5"],
     [() => Machine.ofState({ sets: 8 }), MISSING_KEY, null, "plan", 'a machine\'s state: the key "plan" is missing'],
@@ -188,17 +188,17 @@ function faultsNameTheirRow() {
   const [row, entry] = [{ at: "02000", bank: "00005", action: "nothing" }, { group: 1, phase: 1 }];
   const others = Array.from({ length: 39 }, (_, k) => ({ ...row, at: 0o2001 + k }));
   thrown(AgcError, () => new Machine({ plan: { task: [{ ...row, at: "00000" }, row] } }), 'task 1: at: "00000": an address is five octal digits, 00001 to 37777');
-  thrown(AgcError, () => new Machine({ plan: { task: [row, { ...row, bank: 32768 }, row] } }), "task 2: bank is 100000 (octal), and may be 0 to 77777");
+  thrown(AgcError, () => new Machine({ plan: { task: [row, { ...row, bank: 32768 }, row] } }), "task 2: bank is 100000 (octal), but must be 0 to 77777");
   thrown(AgcError, () => new Machine({ plan: { task: [row, ...others, row, row] } }), "task 41: 02000/00005 already has row 1");
-  thrown(AgcError, () => new Machine({ plan: { task: others, phase: [entry, { ...entry, phase: 128 }] } }), "phase 2: phase is 128, and may be 1 to 127");
-  thrown(AgcError, () => new Machine({ sets: 9 }), "a machine: sets is 9, and may be 7 to 8");
-  thrown(AgcError, () => new Clock({ steal: 101 }), "a timetable: steal is 101, and may be 0 to 100");
+  thrown(AgcError, () => new Machine({ plan: { task: others, phase: [entry, { ...entry, phase: 128 }] } }), "phase 2: phase is 128, but must be 1 to 127");
+  thrown(AgcError, () => new Machine({ sets: 9 }), "a machine: sets is 9, but must be 7 to 8");
+  thrown(AgcError, () => new Clock({ steal: 101 }), "a timetable: steal is 101, but must be 0 to 100");
   thrown(TypeError, () => new Machine({ words: null }), "words must be an array of words, not null");
   thrown(AgcError, () => new Machine({ power: 3 }), "a machine: power must be an array of words, not 3");
   thrown(TypeError, () => sceneOf(null), "words must be an array of words, not null");
   const cost = { from: 0, to: 5 };
-  thrown(AgcError, () => new Clock({ seed: 1, job: [{ at: 1, cost }] }), "job 1: cost: from is 0, and may be 1 to 1000000");
-  thrown(AgcError, () => new Clock({ seed: 1, job: [{ at: 1, cost: { from: 3, to: 2 } }] }), "job 1: cost: to is 2, and may not be less than from, 3");
+  thrown(AgcError, () => new Clock({ seed: 1, job: [{ at: 1, cost }] }), "job 1: cost: from is 0, but must be 1 to 1000000");
+  thrown(AgcError, () => new Clock({ seed: 1, job: [{ at: 1, cost: { from: 3, to: 2 } }] }), "job 1: cost: to is 2, but must not be less than from, 3");
   thrown(AgcError, () => new Clock({ job: [{ at: 1, cost: { from: 2, to: 3 } }] }), "job 1: cost is by lot, and there is no seed");
   thrown(AgcError, () => new Clock({ steal: [{ from: 9, to: 9, percent: 1 }] }), "steal 1: to is 9, and must be above from, 9");
   const short = [{ from: 0, to: 9, percent: 1, every: 8 }];
@@ -234,7 +234,7 @@ function untidyWordsAreTold() {
   for (const it of ["novac 20 02000 00005", "novac 30 02000 00005", "change", "list 10 02000 00005", "list 10 02000 00005"]) machine.ask(it);
   for (const [place, bits, name] of [[7, 1, "MODE of core set 0"], [22, 0o77777, "PUSHLOC of core set 1"], [91, 0o77777, "LST1 0"]]) {
     const words = Array.from(machine.words, (it, k) => (k === place ? bits : it));
-    const told = `${name} (word ${place}) is ${bits.toString(8).padStart(5, "0")}, and would have to be 00000: no request leaves it so`;
+    const told = `${name} (word ${place}) is ${bits.toString(8).padStart(5, "0")}, but should be 00000: no request leaves it so`;
     thrown(AgcError, () => new Machine({ words }), `words: ${told}`);
     want(findingOf(words).text === told && findingOf(words).code === Code.UNTIDY && sceneOf(words).running === 2, told);
   }
@@ -372,17 +372,17 @@ function wordsAreNamed() {
 function messagesCanBeShown() {
   const [machine, row] = [new Machine(), { at: 1, bank: 5, action: ["nothing", "tick"] }];
   for (const [call, told] of [
-    [() => machine.ask("novac", 0o40, 0o2000, 5), "priority is 40 (octal), and may be 1 to 37"],
-    [() => machine.ask("novac", 1, 0, 5), "address is 0 (octal), and may be 1 to 37777"],
-    [() => machine.ask("findvac", 1, 1, 32768), "word is 100000 (octal), and may be 0 to 77777"],
-    [() => machine.ask("list", 16251, 1, 1), "delay is 16251, and may be 1 to 16250"],
-    [() => machine.ask("phase", 7, 1), "group is 7, and may be 1 to 6"],
-    [() => machine.ask("novac", 2 ** 32 + 1, 1, 1), "priority is 40000000001 (octal), and may be 1 to 37"],
-    [() => machine.ask(new agc.Asked("prio", [0o40], null)), "priority is 40 (octal), and may be 1 to 37"],
+    [() => machine.ask("novac", 0o40, 0o2000, 5), "priority is 40 (octal), but must be 1 to 37"],
+    [() => machine.ask("novac", 1, 0, 5), "address is 0 (octal), but must be 1 to 37777"],
+    [() => machine.ask("findvac", 1, 1, 32768), "word is 100000 (octal), but must be 0 to 77777"],
+    [() => machine.ask("list", 16251, 1, 1), "delay is 16251, but must be 1 to 16250"],
+    [() => machine.ask("phase", 7, 1), "group is 7, but must be 1 to 6"],
+    [() => machine.ask("novac", 2 ** 32 + 1, 1, 1), "priority is 40000000001 (octal), but must be 1 to 37"],
+    [() => machine.ask(new agc.Asked("prio", [0o40], null)), "priority is 40 (octal), but must be 1 to 37"],
     [() => machine.ask(""), '"": a line may not be empty'],
     [() => machine.ask("tick\r"), '"tick\\r": a line ends with LF alone, not with CR LF'],
     [() => machine.ask("novac 20"), '"novac 20": it has the form "novac P A W": P is a priority, A is an address, W is a word'],
-    [() => machine.ask("novac 20 2000 00005"), '"novac 20 2000 00005": an address is five octal digits, 00001 to 37777, and this is "2000"'],
+    [() => machine.ask("novac 20 2000 00005"), '"novac 20 2000 00005": an address is five octal digits, 00001 to 37777, not "2000"'],
     [() => machine.ask("prio", 7, 8), "prio takes 1 number (priority), and 2 are given"],
     [() => machine.ask("tick\n"), '"tick\\n": it has a line\'s end; give the line without it'],
     [() => new Machine({ words: new Array(131).fill(0) }), "words: there must be 132 or 144, and there are 131"],
@@ -390,14 +390,14 @@ function messagesCanBeShown() {
     [() => machine.ask("tick "), '"tick ": it ends with a space'],
     [() => machine.ask("novac  20 02000 00005"), '"novac  20 02000 00005": there are two spaces after "novac"'],
     [() => machine.ask("end 5"), '"end 5": it has the form "end"'],
-    [() => machine.ask("prio 5"), '"prio 5": a priority is octal, 01 to 37, and this is "5"'],
+    [() => machine.ask("prio 5"), '"prio 5": a priority is octal, 01 to 37, not "5"'],
     [() => machine.ask("tick\xa0"), '"tick\\u{a0}": its first word is unknown; did you mean "tick"?'],
     [() => machine.ask("\ufefftick"), '"\\u{feff}tick": its first word is unknown; did you mean "tick"?'],
     [() => machine.ask("NOVAC", 16, 1024, 5), '"NOVAC": write "novac" in lowercase'],
     [() => machine.ask("novac", 16), "novac takes 3 numbers (priority, address, word), and 1 is given"],
     [() => machine.ask("tick", 1, 2), "tick takes no numbers, and 2 are given"],
     [() => machine.ask("novac 20 02000 00005", 5), '"novac 20 02000 00005": a whole line takes no numbers, and 1 is given'],
-    [() => placeName(-1), "place is -1, and may be 0 to 143"],
+    [() => placeName(-1), "place is -1, but must be 0 to 143"],
     [() => new Machine({ plan: { task: [row] } }),
       'task 1: action 2: "tick": an action is nothing, or begins with novac, findvac, rouse or list'],
   ]) thrown(AgcError, call, told);

@@ -74,7 +74,7 @@ class Keeping(unittest.TestCase):
     def test_time_goes_on(self):
         """A run of less than nothing is refused at once, and nothing passes; of nothing it is no run."""
         machine, clock = Machine(), Clock()
-        self.assertEqual(self.raised(AgcError, lambda: machine.run(clock, -1)), "centiseconds is -1, and may be 0 to 4294967295")
+        self.assertEqual(self.raised(AgcError, lambda: machine.run(clock, -1)), "centiseconds is -1, but must be 0 to 4294967295")
         self.raised(TypeError, lambda: machine.run(clock, 2.5))
         self.assertTrue(machine.run(clock, 0) == [] and clock.time == 0 and machine.totals.served == 0)
         self.assertTrue([str(it) for it, _ in machine.run(clock, 3)] == ["tick"] * 3 and clock.time == 3)
@@ -84,12 +84,12 @@ class Keeping(unittest.TestCase):
     def test_a_day_is_the_longest(self):
         """Events come up to a day, so that a timetable that lasts longer would lose them."""
         self.assertTrue(Clock({"seconds": 86400}).lasts == 8640000 and Clock({"seconds": 0.29}).lasts == 29)
-        told = "a timetable: seconds is 86401, and may be 0 to 86400"
+        told = "a timetable: seconds is 86401, but must be 0 to 86400"
         self.assertEqual(self.raised(AgcError, lambda: Clock({"seconds": 86401})), told)
         self.assertEqual(self.raised(AgcError, lambda: Clock({"seconds": 0.125})), "a timetable: seconds must be whole centiseconds, and is 0.125")
-        self.assertEqual(self.raised(AgcError, lambda: Clock({"seconds": float("nan")})), "a timetable: seconds is nan, and may be 0 to 86400")
+        self.assertEqual(self.raised(AgcError, lambda: Clock({"seconds": float("nan")})), "a timetable: seconds is nan, but must be 0 to 86400")
         late = {"event": [{"at": 0, "do": "tick"}, {"at": 8640001, "do": "tick"}]}
-        self.assertEqual(self.raised(AgcError, lambda: Clock(late)), "event 2: at is 8640001, and may be 0 to 8640000")
+        self.assertEqual(self.raised(AgcError, lambda: Clock(late)), "event 2: at is 8640001, but must be 0 to 8640000")
 
     def test_an_event_may_never_come(self):
         """Its last time is before its first: only the clock's own requests come, as in `agc_watch`."""
@@ -114,8 +114,8 @@ class Keeping(unittest.TestCase):
         self.assertIs(agc.refusal_of("fresh", agc.Bounds(10, 10, 0, 5)), Code.SPENT)
         told = self.raised(AgcError, lambda: agc.refusal_of("tock", agc.Bounds(0, 1, 0, 1)))
         self.assertEqual(told, '"tock": its first word is unknown; did you mean "tick"?')
-        self.assertEqual(self.raised(AgcError, lambda: agc.refusal_of("tick", agc.Bounds(0, 2**64, 0, 1))), "bounds: allowance is 18446744073709551616, and may be 0 to 18446744073709551615")
-        self.assertEqual(self.raised(AgcError, lambda: agc.refusal_of("tick", agc.Bounds(0, 1, -1, 1))), "bounds: logged is -1, and may be 0 to 4294967295")
+        self.assertEqual(self.raised(AgcError, lambda: agc.refusal_of("tick", agc.Bounds(0, 2**64, 0, 1))), "bounds: allowance is 18446744073709551616, but must be 0 to 18446744073709551615")
+        self.assertEqual(self.raised(AgcError, lambda: agc.refusal_of("tick", agc.Bounds(0, 1, -1, 1))), "bounds: logged is -1, but must be 0 to 4294967295")
         self.raised(TypeError, lambda: agc.refusal_of("tick", (0, 1, 0, 1)))
 
     def test_pulses_ask(self):
@@ -125,8 +125,8 @@ class Keeping(unittest.TestCase):
         self.assertTrue(agc.pulse_of("key", keys) == ["novac 20 02000 00005", "rouse 02100"] and agc.pulse_of("radar", keys) == [])
         self.assertEqual(agc.pulse_of("radar", radar="list 16250 37777 77777"), ["list 16250 37777 77777"])
         self.assertEqual(agc.pulse_of("key", ["findvac 01 00001 00000"] * 4), ["findvac 01 00001 00000"] * 4)
-        self.assertEqual(self.raised(AgcError, lambda: agc.pulse_of("key", ["nothing"] * 5)), "a pulse: key must have 1 to 4 lines, and has 5")
-        self.assertEqual(self.raised(AgcError, lambda: agc.pulse_of("bell")), 'line is "bell", and may be timer, key or radar')
+        self.assertEqual(self.raised(AgcError, lambda: agc.pulse_of("key", ["nothing"] * 5)), "a pulse: key must have 1 to 4 lines, but has 5")
+        self.assertEqual(self.raised(AgcError, lambda: agc.pulse_of("bell")), 'line is "bell", but must be timer, key or radar')
         told = self.raised(AgcError, lambda: agc.pulse_of("key", "tick"))
         self.assertEqual(told, 'a pulse: key 1: "tick": an action is nothing, or begins with novac, findvac, rouse or list')
 
@@ -162,11 +162,11 @@ class Keeping(unittest.TestCase):
             (lambda: Machine(plan={"phase": [5]}), Code.WRONG_TYPE, "phase 1", None, "phase 1 must be a dict, not 5"),
             (lambda: Machine(plan={"script": 7}), Code.WRONG_TYPE, None, "script", "a plan: script must be a list of lines, not 7"),
             (lambda: Machine(plan={"worker": "x"}), Code.WRONG_TYPE, None, "worker", "a plan: worker is an array of tables: write [[worker]]"),
-            (lambda: Machine(plan={"limit": -5}), Code.PLAN_RANGE, None, "limit", "a plan: limit is -5, and may be 1 to 1000000"),
-            (lambda: Machine(plan={"power": ["bad"]}), Code.NOT_WORDS, None, "power", "a plan: power must have 12 words, and has 1"),
+            (lambda: Machine(plan={"limit": -5}), Code.PLAN_RANGE, None, "limit", "a plan: limit is -5, but must be 1 to 1000000"),
+            (lambda: Machine(plan={"power": ["bad"]}), Code.NOT_WORDS, None, "power", "a plan: power must have 12 words, but has 1"),
             (lambda: Machine(plan={"device": [{"line": "bell"}]}), Code.PLAN_RANGE, "device 1", "line", 'device 1: line: "bell": a line is timer, key or radar'),
-            (lambda: Clock({"event": [{"at": 0, "do": "tick"}] * 1001}), Code.OUT_OF_RANGE, None, "event", "a timetable: event must have at most 1000 tables, and has 1001"),
-            (lambda: Clock({"job": [job] * 101}), Code.OUT_OF_RANGE, None, "job", "a timetable: job must have at most 100 tables, and has 101"),
+            (lambda: Clock({"event": [{"at": 0, "do": "tick"}] * 1001}), Code.OUT_OF_RANGE, None, "event", "a timetable: event must have at most 1000 tables, but has 1001"),
+            (lambda: Clock({"job": [job] * 101}), Code.OUT_OF_RANGE, None, "job", "a timetable: job must have at most 100 tables, but has 101"),
             (lambda: Clock({"event": [{"at": 0, "do": "tick", "name": "a\nb"}]}), Code.TIME_RANGE, "event 1", "name",
              'event 1: name: "a\\nb": a name is one line, without control characters'),
         ]:
@@ -193,21 +193,21 @@ class Keeping(unittest.TestCase):
         others = [{**row, "at": 0o2000 + k} for k in range(1, 40)]
         for call, told in [
             (lambda: Machine(plan={"task": [{**row, "at": "00000"}, row]}), 'task 1: at: "00000": an address is five octal digits, 00001 to 37777'),
-            (lambda: Machine(plan={"task": [row, {**row, "bank": 32768}, row]}), "task 2: bank is 100000 (octal), and may be 0 to 77777"),
+            (lambda: Machine(plan={"task": [row, {**row, "bank": 32768}, row]}), "task 2: bank is 100000 (octal), but must be 0 to 77777"),
             (lambda: Machine(plan={"task": [row, *others, row, row]}), "task 41: 02000/00005 already has row 1"),
-            (lambda: Machine(plan={"task": others, "phase": [entry, {**entry, "phase": 128}]}), "phase 2: phase is 128, and may be 1 to 127"),
-            (lambda: Machine(sets=9), "a machine: sets is 9, and may be 7 to 8"),
-            (lambda: Machine(plan={"task": [{**row, "action": []}]}), "task 1: action must have 1 to 4 lines, and has 0"),
-            (lambda: Clock({"seed": 0}), "a timetable: seed is 0, and may be 1 to 2147483646"),
-            (lambda: Machine(power=["77777"] * 11), "a machine: power must have 12 words, and has 11"),
-            (lambda: Clock({"steal": 101}), "a timetable: steal is 101, and may be 0 to 100"),
-            (lambda: Clock({"job": [{"at": 1, "cost": {"from": 0, "to": 5}}], "seed": 1}), "job 1: cost: from is 0, and may be 1 to 1000000"),
-            (lambda: Clock.of_state({"timetable": {}, "at": [1]}), "at must have 14 numbers, and has 1"),
+            (lambda: Machine(plan={"task": others, "phase": [entry, {**entry, "phase": 128}]}), "phase 2: phase is 128, but must be 1 to 127"),
+            (lambda: Machine(sets=9), "a machine: sets is 9, but must be 7 to 8"),
+            (lambda: Machine(plan={"task": [{**row, "action": []}]}), "task 1: action must have 1 to 4 lines, but has 0"),
+            (lambda: Clock({"seed": 0}), "a timetable: seed is 0, but must be 1 to 2147483646"),
+            (lambda: Machine(power=["77777"] * 11), "a machine: power must have 12 words, but has 11"),
+            (lambda: Clock({"steal": 101}), "a timetable: steal is 101, but must be 0 to 100"),
+            (lambda: Clock({"job": [{"at": 1, "cost": {"from": 0, "to": 5}}], "seed": 1}), "job 1: cost: from is 0, but must be 1 to 1000000"),
+            (lambda: Clock.of_state({"timetable": {}, "at": [1]}), "at must have 14 numbers, but has 1"),
             (lambda: Machine(plan={"phase": [entry, {**entry, "group": 2}, entry]}), "phase 3: phase 1 of group 1 already has row 1"),
             (lambda: Clock({"job": [{"at": k, "cost": 1} for k in (1, 2, 3, 2, 1)]}), "job 4: 00002 already has row 2"),
             (lambda: Clock({"steal": [{"from": 9, "to": 9, "percent": 1}]}), "steal 1: to is 9, and must be above from, 9"),
             (lambda: Clock({"steal": [{"from": 0, "to": 9, "percent": 1, "every": 8}]}), "steal 1: every is 8, and must be as long as the row lasts, 9, or longer"),
-            (lambda: Clock({"job": [{"at": 1, "cost": {"from": 3, "to": 2}}], "seed": 1}), "job 1: cost: to is 2, and may not be less than from, 3"),
+            (lambda: Clock({"job": [{"at": 1, "cost": {"from": 3, "to": 2}}], "seed": 1}), "job 1: cost: to is 2, but must not be less than from, 3"),
             (lambda: Clock({"job": [{"at": 1, "cost": {"from": 2, "to": 3}}]}), "job 1: cost is by lot, and there is no seed"),
             (lambda: Clock({"steal": [{"from": 9, "to": 12, "percent": 1}, {"from": 0, "to": 10, "percent": 1}]}), "steal 2: it overlaps row 1"),
         ]:
@@ -237,7 +237,7 @@ class Keeping(unittest.TestCase):
         words = machine.words
         for place, bits, name in [(7, 1, "MODE of core set 0"), (22, 0o77777, "PUSHLOC of core set 1"), (91, 0o77777, "LST1 0")]:
             other = [*words[:place], bits, *words[place + 1:]]
-            told = f"{name} (word {place}) is {bits:05o}, and would have to be 00000: no request leaves it so"
+            told = f"{name} (word {place}) is {bits:05o}, but should be 00000: no request leaves it so"
             self.assertEqual(self.raised(AgcError, lambda: Machine(words=other)), f"words: {told}")
             self.assertEqual((str(agc.finding_of(other)), agc.finding_of(other).code), (told, Code.UNTIDY))
             self.assertEqual(agc.scene_of(other).running, 2)
@@ -361,17 +361,17 @@ class Keeping(unittest.TestCase):
         """What is out of range is named with its number and its range, and a line is explained as `agc_watch check` explains it."""
         machine, row = Machine(), {"at": 1, "bank": 5, "action": ["nothing", "tick"]}
         for call, told in [
-            (lambda: machine.ask("novac", 0o40, 0o2000, 5), "priority is 40 (octal), and may be 1 to 37"),
-            (lambda: machine.ask("novac", 1, 0, 5), "address is 0 (octal), and may be 1 to 37777"),
-            (lambda: machine.ask("findvac", 1, 1, 32768), "word is 100000 (octal), and may be 0 to 77777"),
-            (lambda: machine.ask("list", 16251, 1, 1), "delay is 16251, and may be 1 to 16250"),
-            (lambda: machine.ask("phase", 7, 1), "group is 7, and may be 1 to 6"),
-            (lambda: machine.ask("novac", 2**32 + 1, 1, 1), "priority is 40000000001 (octal), and may be 1 to 37"),
+            (lambda: machine.ask("novac", 0o40, 0o2000, 5), "priority is 40 (octal), but must be 1 to 37"),
+            (lambda: machine.ask("novac", 1, 0, 5), "address is 0 (octal), but must be 1 to 37777"),
+            (lambda: machine.ask("findvac", 1, 1, 32768), "word is 100000 (octal), but must be 0 to 77777"),
+            (lambda: machine.ask("list", 16251, 1, 1), "delay is 16251, but must be 1 to 16250"),
+            (lambda: machine.ask("phase", 7, 1), "group is 7, but must be 1 to 6"),
+            (lambda: machine.ask("novac", 2**32 + 1, 1, 1), "priority is 40000000001 (octal), but must be 1 to 37"),
             (lambda: machine.ask(""), '"": a line may not be empty'),
             (lambda: machine.ask("tick\r"), '"tick\\r": a line ends with LF alone, not with CR LF'),
             (lambda: machine.ask("tick\n"), '"tick\\n": it has a line\'s end; give the line without it'),
             (lambda: machine.ask("novac 20"), '"novac 20": it has the form "novac P A W": P is a priority, A is an address, W is a word'),
-            (lambda: machine.ask("novac 20 2000 00005"), '"novac 20 2000 00005": an address is five octal digits, 00001 to 37777, and this is "2000"'),
+            (lambda: machine.ask("novac 20 2000 00005"), '"novac 20 2000 00005": an address is five octal digits, 00001 to 37777, not "2000"'),
             (lambda: machine.ask("prio", 7, 8), "prio takes 1 number (priority), and 2 are given"),
             (lambda: Machine(words=[0] * 131), "words: there must be 132 or 144, and there are 131"),
             (lambda: Machine(plan={"task": [row]}),
@@ -385,7 +385,7 @@ class Keeping(unittest.TestCase):
             ("novac  20 02000 00005", '"novac  20 02000 00005": there are two spaces after "novac"'),
             ("list 5  02000 00005", '"list 5  02000 00005": there are two spaces after "5"'),
             ("end 5", '"end 5": it has the form "end"'),
-            ("prio 5", '"prio 5": a priority is octal, 01 to 37, and this is "5"'),
+            ("prio 5", '"prio 5": a priority is octal, 01 to 37, not "5"'),
             ("tick\xa0", '"tick\\xa0": its first word is unknown; did you mean "tick"?'),
             ("\ufefftick", '"\\ufefftick": its first word is unknown; did you mean "tick"?'),
             ("x" * 61, f'"{"x" * 60}..": {agc.OTHERWISE[agc.REQUEST_KINDS]}'),
@@ -402,11 +402,11 @@ class Keeping(unittest.TestCase):
             (lambda: agc.pulse_of("key", 5), "a pulse: key must be a list of lines, not 5"),
             (lambda: Machine(sets="7"), 'a machine: sets must be an int, not "7"'),
             (lambda: Machine(power=[None] * 12), "a machine: power 1 must be an int or five octal digits, not None"),
-            (lambda: Machine(power=[32768] * 12), "a machine: power 1 is 100000 (octal), and may be 0 to 77777"),
+            (lambda: Machine(power=[32768] * 12), "a machine: power 1 is 100000 (octal), but must be 0 to 77777"),
             (lambda: Clock({"seconds": "5"}), 'a timetable: seconds must be a number, not "5"'),
             (lambda: Clock({"event": [{"at": 0, "do": "tick", "name": []}]}), "event 1: name must be a str, not []"),
             (lambda: Machine.of_state({**machine.state, "totals": 5}), "totals must be a dict, not 5"),
-            (lambda: agc.place_name(-1), "place is -1, and may be 0 to 143"),
+            (lambda: agc.place_name(-1), "place is -1, but must be 0 to 143"),
         ]:
             self.assertEqual(self.raised(AgcError, call), told)
         told = "machine must be a Machine, not None"

@@ -202,7 +202,7 @@ fn messages(machine: &mut Machine) {
     assert_eq!(said("tick\r"), r#""tick\r": a line ends with LF alone, not with CR LF"#);
     assert_eq!(said("tock"), r#""tock": its first word is unknown; did you mean "tick"?"#);
     assert_eq!(said("novac 20"), r#""novac 20": it has the form "novac P A W": P is a priority, A is an address, W is a word"#);
-    assert_eq!(said("novac 20 2000 00005"), r#""novac 20 2000 00005": an address is five octal digits, 00001 to 37777, and this is "2000""#);
+    assert_eq!(said("novac 20 2000 00005"), r#""novac 20 2000 00005": an address is five octal digits, 00001 to 37777, not "2000""#);
     assert_eq!(said(" tick"), r#"" tick": it begins with a space"#);
     assert_eq!(said("tick "), r#""tick ": it ends with a space"#);
     assert_eq!(said("novac  20 02000 00005"), r#""novac  20 02000 00005": there are two spaces after "novac""#);
@@ -211,27 +211,27 @@ fn messages(machine: &mut Machine) {
     assert_eq!(said(&"x".repeat(61)), format!("\"{}..\": {}", "x".repeat(60), REQUEST_KINDS.otherwise));
     assert_eq!("prio 07".parse::<AgcRequest>().unwrap().to_string(), "prio 07");
     let mut said = |kind, first, second, third| machine.ask(AgcRequest { kind, first, second, third }).unwrap_err().to_string();
-    assert_eq!(said(NOVAC, 0o40, 0o2000, 5), "priority is 40 (octal), and may be 1 to 37");
-    assert_eq!(said(FINDVAC, 1, 1, 32768), "word is 100000 (octal), and may be 0 to 77777");
-    assert_eq!(said(LIST, 16251, 1, 1), "delay is 16251, and may be 1 to 16250");
+    assert_eq!(said(NOVAC, 0o40, 0o2000, 5), "priority is 40 (octal), but must be 1 to 37");
+    assert_eq!(said(FINDVAC, 1, 1, 32768), "word is 100000 (octal), but must be 0 to 77777");
+    assert_eq!(said(LIST, 16251, 1, 1), "delay is 16251, but must be 1 to 16250");
     let of = |made: Result<Plan, AgcError>| made.and_then(|it| Machine::new(7, it)).unwrap_err().to_string();
     let action = r#"task 1: action 2: "tick": an action is nothing, or begins with novac, findvac, rouse or list"#;
     assert_eq!(of(Plan::new().task(1, 1, &["nothing", "tick"])), action);
     let rows = (1..4).fold(Plan::new(), |plan, it| plan.task(it, 1, &["nothing"]).unwrap());
-    assert_eq!(of(rows.clone().task(0, 1, &["nothing"])), "task 4: at is 0 (octal), and may be 1 to 37777");
-    assert_eq!(of(rows.clone().phase(1, 128, "", "")), "phase 1: phase is 128, and may be 1 to 127");
+    assert_eq!(of(rows.clone().task(0, 1, &["nothing"])), "task 4: at is 0 (octal), but must be 1 to 37777");
+    assert_eq!(of(rows.clone().phase(1, 128, "", "")), "phase 1: phase is 128, but must be 1 to 127");
     assert_eq!(of(rows.phase(1, 1, "", "").unwrap().phase(1, 1, "", "")), "phase 2: phase 1 of group 1 already has row 1");
     let row = |lines: &[&str]| of(Plan::new().task(1, 1, lines));
-    assert_eq!((row(&[]), row(&["nothing"; 5])), ("task 1: action must have 1 to 4 lines, and has 0".into(), "task 1: action must have 1 to 4 lines, and has 5".into()));
+    assert_eq!((row(&[]), row(&["nothing"; 5])), ("task 1: action must have 1 to 4 lines, but has 0".into(), "task 1: action must have 1 to 4 lines, but has 5".into()));
     assert_eq!(of(Plan::new().phase(1, 1, "", "tick")), r#"phase 1: task: "tick": a task begins with list"#);
-    assert_eq!(Machine::new(9, Plan::new()).unwrap_err().to_string(), "a machine: sets is 9, and may be 7 to 8");
+    assert_eq!(Machine::new(9, Plan::new()).unwrap_err().to_string(), "a machine: sets is 9, but must be 7 to 8");
     let mut power = [0; PHASE_WORDS];
     power[3] = 32768;
     let told = Machine::power_up(7, Plan::new(), &power).unwrap_err().to_string();
-    assert_eq!(told, "a machine: power 4 is 100000 (octal), and may be 0 to 77777");
+    assert_eq!(told, "a machine: power 4 is 100000 (octal), but must be 0 to 77777");
     for kind in [0, 14] {
         let request = AgcRequest { kind, ..AgcRequest::default() };
-        let told = format!("kind is {kind}, and may be 1 to 13");
+        let told = format!("kind is {kind}, but must be 1 to 13");
         assert_eq!(machine.ask(request).unwrap_err().to_string(), told);
         assert_eq!(refusal_of(request, &AgcBounds::default()).unwrap_err().to_string(), told);
     }
@@ -252,7 +252,7 @@ fn untidy_words() {
     for (place, bits, name) in [(7, 1, "MODE of core set 0"), (22, 0o77777, "PUSHLOC of core set 1"), (91, 0o77777, "LST1 0")] {
         let mut words = machine.words().to_vec();
         words[place] = bits;
-        let told = format!("{name} (word {place}) is {bits:05o}, and would have to be 00000: no request leaves it so");
+        let told = format!("{name} (word {place}) is {bits:05o}, but should be 00000: no request leaves it so");
         let error = Machine::from_words(&words, Plan::new()).unwrap_err();
         assert_eq!((error.to_string(), error.code), (format!("words: {told}"), Code::Untidy));
         assert_eq!(finding_of(&words).unwrap().unwrap().to_string(), told);
