@@ -22,11 +22,8 @@ const TABLES = {
   0o1203: { text: "Nine tasks wait", part: "tasks", more: ":" },
 };
 
-/** At most so many percent of idle time are hardly any. */
-const HARDLY = 2;
-
-/** How many letters of a name are shown in a cell. */
-const MOST_LETTERS = 24;
+/** At most so many percent of idle time are hardly any; and how many letters of a name are shown in a cell. */
+const [HARDLY, MOST_LETTERS] = [2, 24];
 
 /** A number or an address in a cell, and after it the name, if there is one, without blanks. @param {string} number @param {string | undefined} name */
 function joined(number, name) {
@@ -230,12 +227,9 @@ function accountOfBeginning(run, shown, names, { about, count }) {
 
 /** The beginning of an exercise whose answer is hidden. @param {import("./run.js").Run} run @returns {Account} */
 function accountOfQuestion({ bench }) {
-  const isPower = bench.power !== undefined;
-  const lines = [[isPower
-    ? "Power comes back, and the computer looks at the phase words that are in the document."
-    : "No request has been served yet: there is no job, no task waits, and all phases are 0."],
-  [isPower ? "What it does isn't shown yet." : "Next serves one request after the other."]];
-  return { heading: isPower ? "Power comes back" : "The beginning", lines, isAlarm: false };
+  const [heading, ...lines] = bench.power !== undefined ? ["Power comes back", "Power comes back, and the computer looks at the phase words that are in the document.", "What it does isn't shown yet."]
+    : ["The beginning", "No request has been served yet: there is no job, no task waits, and all phases are 0.", "Next serves one request after the other."];
+  return { heading, lines: lines.map((it) => [it]), isAlarm: false };
 }
 
 /** @param {import("./run.js").Run} run @param {Shown} shown @param {Names} names @returns {Account} */

@@ -105,7 +105,7 @@ export function actionOf({ bench }, { step }) {
  */
 export function strawOf(run, shown, names) {
   const [, at] = /^(?:novac|findvac) [0-7]+ ([0-7]+)/.exec(actionOf(run, shown)?.line ?? shown.line) ?? [];
-  const [what, count] = shown.step?.number === 0o1201 ? ["VAC area", 5] : ["core set", run.sets];
+  const [what, count] = shown.step?.number === 0o1201 ? ["VAC area (a longer block of memory)", 5] : ["core set", run.sets];
   const name = at === undefined ? undefined : names.job(parseInt(at, 8));
   return at === undefined ? "" : `one more job${name === undefined ? "" : `, ${name},`} asks for a ${what}, and all ${COUNTS[count].toLowerCase()} are taken.`;
 }

@@ -13,8 +13,7 @@ import { octal } from "./words.js";
 /** @typedef {import("./state.js").State} State */
 
 /** Each job has a task, and so many tasks may wait; how long the run lasts. */
-const MOST_BUILT = 9;
-const LASTS = 60;
+const [MOST_BUILT, LASTS] = [9, 60];
 
 /** The scenario of these jobs. @param {Built[]} jobs */
 export function scenarioOf(jobs) {

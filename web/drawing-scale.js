@@ -10,15 +10,16 @@ import { lastUpTo, lastWhere } from "./lanes.js";
 const [LEAST_SPAN, FEW, APART] = [20, 120, [90, 45]];
 
 export class Scale {
-  /** @param {import("./run.js").Run} run @param {number} count @param {import("./run.js").Run} [over] whose restarts have columns */
-  constructor(run, count, over = run) {
+  /** @param {import("./run.js").Run} run @param {number} count @param {import("./run.js").Run} [over] whose restarts have columns @param {number} [all] for how many rows there is room */
+  constructor(run, count, over = run, all = count) {
     this.run = run;
     this.count = count;
+    this.all = all;
     this.eras = over.lanes.eras;
-    const isLong = run.bench.seconds !== undefined || count > FEW;
-    this.isTime = isLong && run.ticksAt(count) >= LEAST_SPAN;
-    this.end = Math.max(1, this.isTime ? run.ticksAt(count) : this.placeOf(count) + 1);
     this.lastKey = 2 * count + 1;
+    this.isTime = (run.bench.seconds !== undefined || all > FEW) && run.ticksAt(all) >= LEAST_SPAN;
+    this.known = Math.max(1, this.isTime ? run.ticksAt(count) : this.placeOf(count) + 1);
+    this.end = Math.max(1, this.isTime ? run.ticksAt(all) : this.placeOf(all) + 1);
     this.from = 0;
     this.to = this.end;
   }
@@ -38,9 +39,9 @@ export class Scale {
     return this.placeOf(key >> 1) - (this.isTime || (key & 1) === 1 ? 0 : 1);
   }
 
-  /** Where something ends: with the run, where nothing has ended it. @param {number} key and 0 for none */
+  /** Where something ends: with what is known of the run, where nothing has ended it. @param {number} key and 0 for none */
   endOf(key) {
-    return key === 0 || key > this.lastKey ? this.end : this.placeOfKey(key);
+    return key === 0 || key > this.lastKey ? this.known : this.placeOfKey(key);
   }
 
   /** The last key at a place: what entry of the lanes holds there. @param {number} place */
@@ -91,6 +92,6 @@ export class Scale {
     return Array.from({ length: Math.max(0, Math.floor(this.to / step) - first + 1) }, (_, k) => {
       const at = (first + k) * step;
       return this.isTime ? { place: at, text: `${at / 100} s` } : { place: this.placeOf(at), text: String(at) };
-    }).filter(({ place }) => place >= this.from && place <= Math.min(this.to, this.placeOf(this.count)));
+    }).filter(({ place }) => place >= this.from && place <= Math.min(this.to, this.isTime ? this.end : this.placeOf(this.count)));
   }
 }

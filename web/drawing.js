@@ -7,7 +7,7 @@
  * @typedef {import("./run.js").Run} Run
  * @typedef {{ kind: "job" | "task", id: number }} Selection
  * @typedef {{ width: number, from?: number, to?: number, high?: number, text?: number, strips?: string[],
- *   opened?: string[], parts?: string[], selection?: Selection | null, before?: { run: Run, count: number } | null,
+ *   all?: number, opened?: string[], parts?: string[], selection?: Selection | null, before?: { run: Run, count: number } | null,
  *   theme?: "light" | "dark" | "forced", names?: Names, colours?: Colours, isStill?: boolean,
  *   isBare?: boolean, title?: string }} View `isStill`: it doesn't change, so what is empty all the time may
  *   be thin; `isBare`: it has no text, and all of its width is the run's
@@ -73,7 +73,7 @@ export class Sheet {
     this.colours.see(run.lanes);
     /** How long a job may take, by the address at which it begins, in ticks. */
     this.deadlines = new Map(run.bench.job.map((it) => [parseInt(it.at, 8), it.deadline]));
-    this.scale = new Scale(run, count);
+    this.scale = new Scale(run, count, run, view.all);
     this.scale.see(view.from ?? 0, view.to ?? this.scale.end);
     this.before = this.view.before === null ? null : this.scale.ofOther(this.view.before);
     this.size = Math.max(LEAST_TEXT, view.text ?? LEAST_TEXT);

@@ -8,7 +8,8 @@
 import { Machine } from "../libagc/js/machine.js";
 import { readBench, requestsOf } from "./bench.js";
 import { runOf } from "./clock.js";
-import { jobsOf, missedIn } from "./jobs.js";
+import { loadOf } from "./job-table.js";
+import { jobsOf, missedIn, withPriority } from "./jobs.js";
 import { NO_SOURCE } from "./run.js";
 import { namesOf } from "./state.js";
 import { firstsOf } from "./sweep.js";
@@ -85,23 +86,34 @@ function shortest({ bench }) {
   return { count: "none", code: "none" };
 }
 
-/** Whether an alarm comes. @param {import("./bench.js").Bench} bench */
-function isRaised(bench) {
-  const steps = firstsOf(bench);
-  let step = steps.next();
-  while (!step.done) step = steps.next();
-  return step.value.alarm !== null;
+/** The greatest number below this one with which all goes well, found by halving. @param {number} most @param {(number: number) => import("./bench.js").Bench} benchOf @param {"alarm" | "missed"} what may not come */
+function greatest(most, benchOf, what) {
+  let [good, bad] = [0, most];
+  while (bad - good > 1) {
+    const middle = (good + bad) >> 1;
+    const steps = firstsOf(benchOf(middle));
+    let step = steps.next();
+    while (!step.done) step = steps.next();
+    if (step.value[what] === null) good = middle;
+    else bad = middle;
+  }
+  return good;
 }
 
-/** The greatest percentage that may be stolen without an alarm, found by halving. @param {Run} run @param {number} seconds */
-function mostStolen({ bench }, seconds) {
-  let [most, least] = [0, 100];
-  while (least - most > 1) {
-    const steal = Math.floor((most + least) / 2);
-    if (isRaised({ ...bench, steal, seconds })) least = steal;
-    else most = steal;
-  }
-  return { value: String(most) };
+/** The greatest percentage that may be stolen without an alarm. @param {Run} run @param {number} seconds */
+const mostStolen = ({ bench }, seconds) => ({ value: String(greatest(100, (steal) => ({ ...bench, steal, seconds }), "alarm")) });
+
+/** How many seconds the last job may need, and none misses a deadline. @param {Run} run */
+const mostNeeded = ({ bench }) => greatest(1000, (cost) => ({ ...bench, job: [...bench.job.slice(0, -1), { ...bench.job[bench.job.length - 1], cost }] }), "missed") / 100;
+
+/** All orders of some names. @param {string[]} names @returns {string[][]} */
+const ordersOf = (names) => (names.length < 2 ? [names] : names.flatMap((it) => ordersOf(names.filter((one) => one !== it)).map((rest) => [it, ...rest])));
+const ORDERS = ordersOf(["autopilot", "guidance", "display"]);
+
+/** The order of priorities, the greatest first, by which no deadline is missed. @param {Run} run */
+function goodOrder({ bench }) {
+  const ranked = (/** @type {string[]} */ order) => order.reduce((made, name, k) => ({ ...made, ...withPriority(made, bench.job.find((it) => it.name === name)?.at ?? "", 30 - k) }), bench);
+  return ORDERS.find((it) => missed(runOf(ranked(it), [], {}, Infinity)) === "0")?.join(", ") ?? "none";
 }
 
 /** @param {Run} run @param {(running: number, before: number) => boolean} holds */
@@ -117,6 +129,10 @@ const lateFirst = (run) => jobsOf(run, run.count).filter((it) => it.missed > 0).
 /** @param {Run} run */
 const missed = (run) => String(missedIn(run, run.count));
 
+const misses = (/** @type {string} */ label) => ({ label, answer: (/** @type {Run} */ run) => ({ value: missed(run), row: lateFirst(run)?.missedRow }) });
+const late = (/** @type {string} */ label, /** @type {string[]} */ options) => ({ label, options,
+  answer: (/** @type {Run} */ run) => ({ value: namesOf(run).job(lateFirst(run)?.at ?? 0) ?? "none", row: lateFirst(run)?.missedRow }) });
+const load = (/** @type {string} */ label, /** @type {(run: Run) => Run} */ of = (run) => run) => ({ label, answer: (/** @type {Run} */ run) => ({ value: String(loadOf(of(run))) }) });
 const alarm = (/** @type {string} */ label, /** @type {any} */ change) => ({ label, options: CODES, answer: ofFirst((it) => it.code, change) });
 const request = (/** @type {string} */ label) => ({ label, answer: ofFirst((it) => it.request) });
 
@@ -166,10 +182,17 @@ export const EXERCISES = {
     { label: "The first one: when, in seconds?", answer: ofFirst((it) => it.time) }, alarm("Which alarm?"),
     { label: "With a phase for the display: how many?", answer: (run) => ({ value: String(changed(run, saved).alarms.length) }) }] },
   "exercise-13": { hint: "How many telemetry jobs are asked for while the guidance computes for 1.3 s, and when does each of them end?", fields: [
-    { label: "What do both ask for, in percent?", answer: (run) => ({ value: String(Math.round(100 * jobsOf(run, run.count).reduce((sum, it) => sum + Number(it.cost) / Number(it.period), 0))) }) },
-    { label: "Which is late?", options: ["guidance", "telemetry"], answer: (run) => ({ value: namesOf(run).job(lateFirst(run)?.at ?? 0) ?? "none", row: lateFirst(run)?.missedRow }) },
-    { label: "How many deadlines are missed?", answer: (run) => ({ value: missed(run), row: lateFirst(run)?.missedRow }) },
+    load("What do both ask for, in percent?"), late("Which is late?", ["guidance", "telemetry"]), misses("How many deadlines are missed?"),
     { label: "With novac 30: how many?", answer: (run) => ({ value: missed(changed(run, (text) => text.replace("novac 10", "novac 30"))) }) }] },
+  "exercise-14": { hint: "While a job of a long period computes, how many of a short one are asked for? Who can wait longest?", fields: [
+    late("Which is late first?", ORDERS[0]),
+    { label: "When does its first one end, in seconds?", answer: (run) => ({ value: (run.momentAt(run.lanes.jobs.gone.items[1] >> 1) / 10_000).toFixed(2), row: lateFirst(run)?.missedRow }) },
+    { label: "By which order is none, the most urgent first?", options: ORDERS.map((it) => it.join(", ")), answer: (run) => ({ value: goodOrder(run) }) }] },
+  "exercise-15": { hint: "Both are asked for at once, and the guidance a second time after two seconds. What is left to the tracking before three are over?", fields: [
+    load("What do both ask for, in percent?"), misses("How many deadlines are missed?"),
+    { label: "None is missed if the tracking needs, in seconds, at most?", answer: (run) => ({ value: mostNeeded(run).toFixed(2) }) },
+    load("Which load is that, in percent?", (run) => whole(run.source.document.replace("cost = 120", `cost = ${100 * mostNeeded(run)}`))),
+    { label: "And every four seconds, at most?", answer: (run) => ({ value: mostNeeded(changed(run, (text) => text.replaceAll("300", "400"))).toFixed(2) }) }] },
 };
 
 /** What a class may type for the same: without zeros at the ends of a number or before an address, in any order of addresses. @param {string} text */

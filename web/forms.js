@@ -3,9 +3,6 @@ import { assign, button, by, fill, labelled, make, set } from "./dom.js";
 import { act, differ } from "./state.js";
 import { FORMS, MEANINGS, octal, visible } from "./words.js";
 
-const COMMON = ["tick", "change", "end", "novac", "findvac", "sleep", "rouse", "list", "prio",
-  "store", "phase", "restart", "fresh"];
-
 /** The text in a field before it is filled. */
 const FIRST = { P: "20", A: "04000", W: "00005", D: "100", K: "1", G: "1", N: "1" };
 
@@ -69,9 +66,9 @@ export function formOf(word, bench, scene, ask) {
 
 /** Buttons for the common requests: those that need numbers open their form. */
 export function makeCommon() {
-  fill("common", COMMON.map((word) => {
+  fill("common", [...MEANINGS].map(([word, title]) => {
     const wants = (FORMS.get(word)?.length ?? 0) > 0;
-    return button(wants ? `${word} …` : word, () => (wants ? act("form", word) : act("ask", word)), { title: MEANINGS.get(word) });
+    return button(wants ? `${word} …` : word, () => (wants ? act("form", word) : act("ask", word)), { title });
   }));
 }
 

@@ -74,7 +74,7 @@ export function head(now, before) {
   drawDisplay(shown);
   assign(by("undo"), { disabled: history.done.length === 0 });
   assign(by("redo"), { disabled: history.undone.length === 0 });
-  for (const id of ["alarm-next", "alarm-back"]) assign(by(id), { disabled: isHidden(now) });
+  for (const id of ["alarm-next", "alarm-back", "to-alarm"]) assign(by(id), { disabled: isHidden(now) });
   set(by("run"), now.clock.isRunning ? "Pause" : "Run");
   attribute(by("run"), "aria-pressed", String(now.clock.isRunning));
   assign(by("speed"), { value: String(speedNow(now)) });

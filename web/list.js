@@ -11,9 +11,7 @@ import { act, differ, isHidden, namesOf, rowOf } from "./state.js";
 import { octal } from "./words.js";
 
 /** How many lines the list has, also where there are fewer rows. */
-const LINES = 15;
-const AROUND = 7;
-const CELLS = 9;
+const [LINES, AROUND, CELLS] = [15, 7, 9];
 
 /** The core sets of a scene: number, name and priority. A job that is asleep is in brackets, and the one that NEWJOB names has a > before it. @param {Scene} scene @param {Names} names */
 function setsCell(scene, names) {

@@ -30,18 +30,22 @@ export function themeNow() {
 /** How high all else is in the tour and for a projector, where a letter is one high. */
 const [TOUR_BESIDE, PROJECTOR_BESIDE] = [31.2, 25.2];
 
-/** What the tour's picture has: what its words need. */
-const TOURED = ["alarms", "work", "sets", "axis", "budget", "notes"];
+/** What the tour's picture has, what its words need; and that of an exercise whose answer is hidden. */
+const [TOURED, ASKED] = [["alarms", "work", "sets", "axis", "budget", "notes"], ["alarms", "sets", "strips", "axis"]];
+
+/** How many rows are drawn: where an exercise's answer is hidden, those up to the one that is shown. @param {State} now */
+const rowsOf = (now) => (isHidden(now) ? now.at : now.count);
 
 /** How large lanes and text are, as the page's text is, and what is drawn. @param {State} now */
-function sizes({ run, tour, isProjected }) {
+function sizes(now) {
+  const { run, tour, isProjected } = now;
   const isToured = tour.step > 0;
-  if (window.innerWidth <= 640) return { high: 19, text: 12, strips: ["areas"], parts: isToured ? TOURED : [...PARTS, "notes"] };
+  if (window.innerWidth <= 640) return { high: 19, text: 12, strips: ["areas"], parts: isHidden(now) ? ASKED : isToured ? TOURED : [...PARTS, "notes"] };
   const size = parseFloat(getComputedStyle(document.documentElement).fontSize);
   // (where little else is below it, it fills the window)
   const below = window.innerHeight / size - (isToured ? TOUR_BESIDE : PROJECTOR_BESIDE);
   const lanes = (isToured || isProjected) && window.innerWidth >= 54 * size ? Math.max(1.6, Math.min(3, below / (run.sets + 3.6))) : 1.87;
-  const parts = [...(isToured ? TOURED : isProjected ? ["events", ...TOURED] : [...PARTS, "notes"]), "legend"];
+  const parts = isHidden(now) ? ASKED : [...(isToured ? TOURED : isProjected ? ["events", ...TOURED] : [...PARTS, "notes"]), "legend"];
   return { high: Math.round(lanes * size), text: Math.round(0.8 * size), parts };
 }
 
@@ -49,7 +53,7 @@ function sizes({ run, tour, isProjected }) {
 function pictureAs(now, view) {
   const { run, count, opened, selection } = now;
   const { from, to } = scaleOf(now);
-  return pictureOf(run, count, { from, to, opened, selection, names: namesOf(run), colours: coloursOf(run), ...view });
+  return pictureOf(run, rowsOf(now), { all: count, from, to, opened, selection, names: namesOf(run), colours: coloursOf(run), ...view });
 }
 
 /** The same for paper, or as a picture of its own. @param {State} now */
@@ -67,15 +71,15 @@ function canWait({ run, seen, clock }) {
 
 /** @param {State} now @param {State} before */
 export function chart(now, before) {
-  const isThere = now.count > 0 && !isHidden(now);
+  const [isThere, rows] = [now.count > 0, rowsOf(now)];
   assign(by("chart-box"), { hidden: !isThere });
   by("chart-box").dataset.filling = now.run.isFilling ? "yes" : "no";
   assign(by("slider"), { max: String(now.count), value: String(now.at) });
   attribute(by("slider"), "aria-valuetext", `request ${now.at} of ${now.count}`);
   if (!isThere) return;
-  if (differ(now, before, "run", "count", "hidden")) set(by("summary"), summaryOf(now.run, now.count));
+  if (differ(now, before, "run", "count", "hidden") || rows < now.count) set(by("summary"), summaryOf(now.run, rows));
   const isOther = drawn.sheet?.run !== now.run || differ(now, before, "run", "seen", "opened", "selection", "before", "hidden", "isProjected", "isEmbedded", "tour");
-  if (isOther || (drawn.sheet.count !== now.count && !canWait(now))) paintNow(now);
+  if (isOther || ((drawn.sheet.count !== rows || drawn.sheet.scale.all !== now.count) && !canWait(now))) paintNow(now);
   else if (differ(now, before, "at")) drawAt(now);
 }
 

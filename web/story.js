@@ -237,10 +237,9 @@ export function question(now, before) {
   const key = JSON.stringify([asked, document, isHidden(now), isChanged, now.predicted, now.tries]);
   if (by("question").dataset.key === key) return;
   by("question").dataset.key = key;
-  if (asked === "") {
-    fill("question", []);
-    return;
-  }
+  assign(by("asked"), { hidden: asked === "" });
+  fill("asked", asked === "" ? [] : document.trim().split(/\n\n+/).map((it) => make("pre", {}, ...withNumbers(it))));
+  if (asked === "") return;
   const [, ...lines] = asked.split("\n");
   const order = isHidden(now) ? "" : orderOf(run.bench);
   const verdict = isHidden(now) ? [] : verdictOf(now);
@@ -250,7 +249,6 @@ export function question(now, before) {
   fill("question", [
     make("h2", { class: "which", id: "which" }, `Exercise ${at + 1} of ${names.length}`),
     make("p", {}, ...withCode(lines.join(" "))),
-    make("div", { class: "parts", role: "group", "aria-label": "The document" }, ...document.trim().split(/\n\n+/).map((it) => make("pre", {}, ...withNumbers(it)))),
     ...(order === "" ? [] : [make("p", { id: "order" }, order)]),
     ...(verdict.length === 0 ? [] : [make("ul", { class: "verdict", id: "verdict", role: "status" }, ...verdict)]),
     ...predictionOf(now),

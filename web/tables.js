@@ -89,12 +89,12 @@ function setBox(shown, k, names, colours) {
   const runs = k === 0 && scene.running === job.number;
   const isNamed = scene.next === job.number && scene.next !== scene.running;
   const stands = runs ? "runs" : job.asleep ? "asleep" : isNamed ? "next to run" : "waits";
+  const area = job.area > 0 ? `, area ${job.area}` : "";
   const colour = 1 + colours.of(jobsFrom[k]);
   const name = names.job(job.at);
   return { name: `set ${k}`, strong: name ?? `job ${job.number}`, isNew,
     style: `${job.asleep ? `asleep h${colour}` : runs ? `j${colour} runs` : `s${colour}`}${comes(shown, job)}`,
-    more: [`${stands}${job.area > 0 ? `, area ${job.area}` : ""}`,
-      name === undefined ? `at ${octal(job.at, 5)}` : `job ${job.number}`, `priority ${names.priority(job.priority)}`] };
+    more: [...(name === undefined ? [`${stands}${area}`, `at ${octal(job.at, 5)}`] : [stands, `job ${job.number}${area}`]), `priority ${names.priority(job.priority)}`] };
 }
 
 /** @param {Shown} shown @param {number} k @param {Names} names @param {Colours} colours @returns {Box} */

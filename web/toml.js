@@ -23,8 +23,7 @@ export const linesOf = new WeakMap();
 const ESCAPES = { b: "\b", t: "\t", n: "\n", f: "\f", r: "\r", '"': '"', "\\": "\\" };
 // What may stand in a text: no control but the tab.
 const CONTROL = /[\u0000-\u0008\u000a-\u001f\u007f]/;
-const LEAST = -(2n ** 63n);
-const MOST = 2n ** 63n - 1n;
+const [LEAST, MOST] = [-(2n ** 63n), 2n ** 63n - 1n];
 
 /** @param {number} line @returns {Table} */
 function newTable(line) {

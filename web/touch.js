@@ -10,18 +10,13 @@ import { octal, seconds } from "./words.js";
 
 /** The field's words, each in a sentence. */
 export const GLOSSARY = {
-  sets: "A core set holds a job while it is alive: twelve words with its number, the address at "
-    + "which it begins, its priority and six work words. The job in core set 0 runs, unless every "
-    + "job is asleep.",
-  areas: "A VAC area is a longer block of memory that some jobs also have: findvac gives a job one "
-    + "until it ends. There are five.",
-  tasks: "A place of the Waitlist holds a task: a short program that is started by the clock and may "
-    + "establish jobs. There is room for nine.",
-  phases: "There are six restart groups, and each has a phase. After a restart the phases say what "
-    + "begins again; 0 means that nothing does.",
+  sets: "A core set holds a job while it is alive: twelve words with its number, the address at which it begins, its priority and six work words. The job "
+    + "in core set 0 runs, unless every job is asleep.",
+  areas: "A VAC area is a longer block of memory that some jobs also have: findvac gives a job one until it ends. There are five.",
+  tasks: "A place of the Waitlist holds a task: a short program that is started by the clock and may establish jobs. There is room for nine.",
+  phases: "There are six restart groups, and each has a phase. After a restart the phases say what begins again; 0 means that nothing does.",
   codes: "FAILREG keeps the codes of alarms: the first, the second and the latest.",
-  newjob: "NEWJOB names the job that is more urgent than the running one. At the next change of jobs "
-    + "it takes core set 0.",
+  newjob: "NEWJOB names the job that is more urgent than the running one. At the next change of jobs it takes core set 0.",
 };
 
 /** @typedef {keyof typeof GLOSSARY} ListName @typedef {{ name: string, pieces: any[], actions?: any[] }} Told @typedef {import("./run.js").Run} Run */

@@ -70,7 +70,7 @@ def try_examples(browser, trial):
     trial.expect(saved(browser)[1], saved(browser)[1].endswith("#landing-1202"))
     browser.click("examples")
     browser.value("document.querySelector('[aria-label=Exercises] button').click()")
-    found = texts(browser, "#question p"), texts(browser, "#question pre"), texts(browser, "#try button")
+    found = texts(browser, "#question p"), texts(browser, "#asked pre"), texts(browser, "#try button")
     trial.expect(f"an exercise: {found}", found[0] == "Keep two counts while you read down the script: how many core sets are in use, and how many "
                  "VAC areas. Which request is one too many, and which alarm does it raise?" and found[1].startswith("script = [\n") and not found[2])
     browser.click("show-answer")

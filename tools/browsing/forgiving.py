@@ -65,7 +65,7 @@ def forgiving(browser, folder):
     fault = open_text(browser, "tick\ntick\nnovac 20\n")
     trial.expect(f"a script with a fault: {fault}", "line 3" in (fault or ""))
     exercise(browser, 1)
-    text = browser.value("document.querySelector('#question pre').textContent")
+    text = browser.value("document.querySelector('#asked pre').textContent")
     browser.click("change-exercise")
     lines = text.split("\n")
     lines[2] = lines[2].replace("findvac", "finvac", 1) if "findvac" in lines[2] else lines[2].replace('"', '"x', 1)

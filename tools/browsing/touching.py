@@ -109,7 +109,7 @@ def try_predictions(browser, trial):
     """A first wrong try gets a hint, and shows no answer; a second one shows all, and leads to the row; Next leads on."""
     say = lambda *given: browser.value(SAY.replace("GIVEN", json.dumps(given)))
     exercise(browser, 1)
-    trial.expect(browser.text("which"), browser.text("which") == "Exercise 1 of 13")
+    trial.expect(browser.text("which"), browser.text("which") == "Exercise 1 of 15")
     say("12", "1202")
     told = browser.text("hint-given"), texts(browser, "#verdict li"), browser.value("document.getElementById('show-answer') !== null")
     trial.expect(f"a first try: {told}", told[0].startswith("Not yet: Which alarm? Each findvac takes") and told[1:] == ("", True))
@@ -119,8 +119,8 @@ def try_predictions(browser, trial):
     browser.value("document.querySelector('#verdict a').click()")
     says(browser, trial, "where it went wrong", "Request 12 of 12")
     browser.click("exercise-next")
-    browser.wait("document.getElementById('which').textContent === 'Exercise 2 of 13'")
-    exercise(browser, 13)
+    browser.wait("document.getElementById('which').textContent === 'Exercise 2 of 15'")
+    exercise(browser, 15)
     trial.expect("there is an exercise after the last", browser.value("document.getElementById('exercise-next') === null"))
 
 
