@@ -125,7 +125,7 @@ def rows_of_orders(hostile, room):
     write(f"{room}/c-race.toml", (worker % ('"findvac 20 02000 00005", ' * 3 + '"end"')) * 2)
     write(f"{room}/d-script.toml", EIGHT_JOBS)
     status, text, _ = run_many(hostile, room, "--mode", "explore")
-    head = "bench,status,a1201,a1202,a1203,jobs,areas,tasks,fault\n"
+    head = "bench,status,a1201,a1202,a1203,most_sets,most_areas,most_tasks,fault\n"
     wanted = (f"{head}a-calm,0,never,never,never,2,0,0,\n"
               'b-key,1,,,,,,,"-:1: unknown key ""unheard"""\n'
               "c-race,10,6,never,never,5,5,0,\nd-script,10,never,8,never,,,,\n")
