@@ -283,6 +283,11 @@ function integer(what, given, low = 0, high = MOST, code = Code.OUT_OF_RANGE, di
   throw fault(code, what, ` is ${is}${digits === 0 ? "" : " (octal)"}, but must be ${least} to ${most}`);
 }
 
+/** A count that JSON has and no number holds, as the most that one does. @template T @param {T} given @returns {T | number} */
+function held(given) {
+  return typeof given === "number" && given > Number.MAX_SAFE_INTEGER ? Number.MAX_SAFE_INTEGER : given;
+}
+
 /** A word or an address: a number, or its five octal digits. @param {string | Place} what @param {unknown} given @param {string} letter @param {string} code */
 function word(what, given, letter, code) {
   const { low, high, sentence, digits } = PARTS[letter];
@@ -384,7 +389,7 @@ function valueOf(table, level, name, given) {
   if (name === "seconds") return centiseconds(what, given);
   if (name === "cost" && isPlain(given)) return tableOf(what, "cost", given);
   if (kind === "tables" || (name === "steal" && typeof given !== "number")) return tablesOf(what, name, kind === "tables", form || name, high, given);
-  if (kind === "integer") return integer(what, given, low, high, code);
+  if (kind === "integer") return integer(what, typeof high === "bigint" ? held(given) : given, low, high, code);
   if (kind === "text") return textOf(what, form, given, code);
   if (kind === "flag" && typeof given !== "boolean") throw wrong(what, "true or false", given);
   if (kind === "flag") return given;
@@ -886,12 +891,12 @@ function askedAt() {
 const BOUNDS = ["served", "allowance", "logged", "limit"];
 const TOTALS = ["served", "alarms", "restarts"];
 
-/** The totals of a state; a version before wrote a list of them. Counts that no number holds are the most that one does. @param {any} given @returns {Totals} */
+/** The totals of a state; a version before wrote a list of them. @param {any} given @returns {Totals} */
 function totalsOf(given) {
   const found = Array.isArray(given) ? Object.fromEntries(given.map((it, k) => [TOTALS[k], it])) : given;
   known(new Place("totals", "totals"), found, TOTALS, TOTALS);
   const count = (/** @type {string} */ what, /** @type {any} */ it) =>
-    integer(keyAt("totals", what), it > Number.MAX_SAFE_INTEGER ? Number.MAX_SAFE_INTEGER : it, 0, Number.MAX_SAFE_INTEGER);
+    integer(keyAt("totals", what), held(it), 0, Number.MAX_SAFE_INTEGER);
   const alarms = items(keyAt("totals", "alarms"), found.alarms, "counts", 3, 3).map((it, k) => count(`alarms ${k + 1}`, it));
   return { served: count("served", found.served), alarms, restarts: count("restarts", found.restarts) };
 }
@@ -1213,13 +1218,13 @@ function sizeOf(sets) {
 function wordsOf(what, words, sets) {
   isStarted();
   const sizes = sets === undefined ? [NUMBERS.LAST_SET, WORDS] : [sizeOf(sets)];
-  const found = items(what, words, "words");
+  const found = items(new Place(what, null, what), words, "words");
   if (!sizes.includes(found.length)) {
-    throw new AgcError(Code.NOT_WORDS, `${what}: there must be ${sizes.join(" or ")}, and there are ${found.length}`);
+    throw fault(Code.NOT_WORDS, new Place(what, null, what), `: there must be ${sizes.join(" or ")}, and there are ${found.length}`);
   }
   return found.map((it, k) => {
     if (Number.isInteger(it)) return it;
-    const one = `${what}: ${PLACES[k]} (word ${k})`;
+    const one = new Place(`${what}: ${PLACES[k]} (word ${k})`, null, what);
     return typeof it === "string" ? word(one, it, "W", Code.NOT_WORDS) : integer(one, it);
   });
 }

@@ -179,6 +179,7 @@ function documentsStandForTheirParts() {
   const power = [...Array(5).fill(["77777", "00000"]).flat(), "77776", "00001"];
   const bench = { limit: 9, allowance: 5n, attends: 1, power, script: ["tick"], worker: [{ script: ["tick"], repeat: true }], device: [{ line: "key" }] };
   want(same(new Machine({ plan: bench }).scene().phases, [0, 0, 0, 0, 0, 1]), "a bench");
+  want(new Machine({ plan: JSON.parse('{ "allowance": 9223372036854775807 }') }).sets === 7, "an allowance that no number holds");
   thrown(AgcError, () => new Machine({ sets: 7, plan: scenario }), "a machine: its sets and its plan's differ");
   thrown(AgcError, () => new Machine({ power: Array(6).fill(["77777", "00000"]).flat(), plan: bench }), "a machine: its power and its plan's differ");
   want(same(new Machine({ plan: bench, words: new Machine().words }).scene().phases, [0, 0, 0, 0, 0, 0]), "words of an earlier machine");
@@ -193,9 +194,9 @@ function faultsNameTheirRow() {
   thrown(AgcError, () => new Machine({ plan: { task: others, phase: [entry, { ...entry, phase: 128 }] } }), "phase 2: phase is 128, but must be 1 to 127");
   thrown(AgcError, () => new Machine({ sets: 9 }), "a machine: sets is 9, but must be 7 to 8");
   thrown(AgcError, () => new Clock({ steal: 101 }), "a timetable: steal is 101, but must be 0 to 100");
-  thrown(TypeError, () => new Machine({ words: null }), "words must be an array of words, not null");
+  thrown(AgcError, () => new Machine({ words: null }), "words must be an array of words, not null");
   thrown(AgcError, () => new Machine({ power: 3 }), "a machine: power must be an array of words, not 3");
-  thrown(TypeError, () => sceneOf(null), "words must be an array of words, not null");
+  thrown(AgcError, () => sceneOf(null), "words must be an array of words, not null");
   const cost = { from: 0, to: 5 };
   thrown(AgcError, () => new Clock({ seed: 1, job: [{ at: 1, cost }] }), "job 1: cost: from is 0, but must be 1 to 1000000");
   thrown(AgcError, () => new Clock({ seed: 1, job: [{ at: 1, cost: { from: 3, to: 2 } }] }), "job 1: cost: to is 2, but must not be less than from, 3");
@@ -224,7 +225,7 @@ function foreignWordsHaveNoScene() {
     want(same([told.code, told.rule, told.place, told.found], [Code.NOT_WORDS, 1, 3, bits]), `a finding: ${JSON.stringify(told)}`);
     want(told.text === `MPAC+3 of core set 0 (word 3) is ${found}: a word has at most fifteen bits`, told.text);
   }
-  thrown(TypeError, () => findingOf([...words.slice(0, 131), null]), "words: FAILREG 2 (word 131) must be an integer, not null");
+  thrown(AgcError, () => findingOf([...words.slice(0, 131), null]), "words: FAILREG 2 (word 131) must be an integer, not null");
   thrown(AgcError, () => sceneOf(words.slice(1)), "words: there must be 132 or 144, and there are 131");
 }
 

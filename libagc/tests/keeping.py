@@ -227,7 +227,7 @@ class Keeping(unittest.TestCase):
             self.assertEqual((told.code, told.rule, told.place, told.found), (Code.NOT_WORDS, 1, 3, bits))
             self.assertEqual(str(told), f"MPAC+3 of core set 0 (word 3) is {found}: a word has at most fifteen bits")
         told = "words: MPAC+3 of core set 0 (word 3) must be an int, not None"
-        self.assertEqual(self.raised(TypeError, lambda: agc.finding_of([*words[:3], None, *words[4:]])), told)
+        self.assertEqual(self.raised(AgcError, lambda: agc.finding_of([*words[:3], None, *words[4:]])), told)
 
     def test_untidy_words_are_told(self):
         """They are lawful, but no request leaves them so: MODE or PUSHLOC of a job, or a gap of LST1 that is minus 0."""
