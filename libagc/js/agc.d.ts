@@ -60,10 +60,8 @@ export function sceneOf(words: ArrayLike<number>): Scene;
  * @typedef {Partial<import("./library.js").Bench & import("./library.js").Scenario>} Plan */
 /** A task of the Waitlist.
  * @typedef {{ at: number, bank: number }} Task */
-/**
- * A task that waits, and the centiseconds that are left to it.
- * @typedef {{ at: number, bank: number, left: number }} Waiting
- */
+/** A task that waits, and the centiseconds that are left to it.
+ * @typedef {{ at: number, bank: number, left: number }} Waiting */
 /**
  * A job in a core set; `area` is the number of its VAC area, 1 to 5, or 0.
  * @typedef {{ number: number, priority: number, at: number, bank: number, asleep: boolean, area: number, work: number[] }} Job
@@ -104,14 +102,10 @@ export function sceneOf(words: ArrayLike<number>): Scene;
  * @typedef {{ seconds?: number, seed?: number, steal?: number | readonly Stolen[], job?: readonly JobCost[],
  *   event?: readonly TimedEvent[] }} Timetable
  */
-/**
- * When the first alarm of each code came, in centiseconds.
- * @typedef {{ 1201?: number, 1202?: number, 1203?: number }} FirstAlarms
- */
-/**
- * All of a clock, of which JSON can be made.
- * @typedef {{ timetable: Timetable, at: number[], alarms?: FirstAlarms }} ClockState
- */
+/** When the first alarm of each code came, in centiseconds.
+ * @typedef {{ 1201?: number, 1202?: number, 1203?: number }} FirstAlarms */
+/** All of a clock, of which JSON can be made.
+ * @typedef {{ timetable: Timetable, at: number[], alarms?: FirstAlarms }} ClockState */
 /**
  * Why no machine begins with words: the code that a call lacks; the rule of lawful words that is broken first, 0 where they are
  * lawful and no request leaves them so; the word's place, from 0, what stands there, and what would have to: null where the

@@ -28,10 +28,7 @@ export { Code, Kind };
 
 /** A task of the Waitlist. @typedef {{ at: number, bank: number }} Task */
 
-/**
- * A task that waits, and the centiseconds that are left to it.
- * @typedef {{ at: number, bank: number, left: number }} Waiting
- */
+/** A task that waits, and the centiseconds that are left to it. @typedef {{ at: number, bank: number, left: number }} Waiting */
 
 /**
  * A job in a core set; `area` is the number of its VAC area, 1 to 5, or 0.
@@ -81,15 +78,9 @@ export { Code, Kind };
  *   event?: readonly TimedEvent[] }} Timetable
  */
 
-/**
- * When the first alarm of each code came, in centiseconds.
- * @typedef {{ 1201?: number, 1202?: number, 1203?: number }} FirstAlarms
- */
+/** When the first alarm of each code came, in centiseconds. @typedef {{ 1201?: number, 1202?: number, 1203?: number }} FirstAlarms */
 
-/**
- * All of a clock, of which JSON can be made.
- * @typedef {{ timetable: Timetable, at: number[], alarms?: FirstAlarms }} ClockState
- */
+/** All of a clock, of which JSON can be made. @typedef {{ timetable: Timetable, at: number[], alarms?: FirstAlarms }} ClockState */
 
 /**
  * Why no machine begins with words: the code that a call lacks; the rule of lawful words that is broken first, 0 where they are
