@@ -431,7 +431,7 @@ function centiseconds(what, seconds) {
   }
   const found = Math.round(100 * seconds);
   if (Math.abs(100 * seconds - found) < 1e-6) return found;
-  throw fault(TIME_RANGE, what, ` must be whole centiseconds, and is ${seconds}`);
+  throw fault(TIME_RANGE, what, ` must be whole centiseconds, but is ${seconds}`);
 }
 
 /**
@@ -947,10 +947,10 @@ function untilOf(until, from = 0) {
 function stolenOf(steal = 0) {
   if (typeof steal === "number") return steal === 0 ? [] : [[0, MOST, steal, 0, LAST_TIME]];
   return steal.map((/** @type {any} */ { from, to, percent, every, until }, /** @type {number} */ k) => {
-    if (to <= from) throw fault(TIME_RANGE, keyAt(`steal ${k + 1}`, "to"), ` is ${to}, and must be above from, ${from}`);
+    if (to <= from) throw fault(TIME_RANGE, keyAt(`steal ${k + 1}`, "to"), ` is ${to}, but must be above from, ${from}`);
     if (every >= to - from || every === undefined) return [from, to, percent, every ?? 0, untilOf(until)];
     const least = `as long as the row lasts, ${to - from}, or longer`;
-    throw fault(TIME_RANGE, keyAt(`steal ${k + 1}`, "every"), ` is ${every}, and must be ${least}`);
+    throw fault(TIME_RANGE, keyAt(`steal ${k + 1}`, "every"), ` is ${every}, but must be ${least}`);
   });
 }
 
@@ -1211,7 +1211,7 @@ function wordsOf(what, words, sets) {
   const sizes = sets === undefined ? [NUMBERS.LAST_SET, WORDS] : [sizeOf(sets)];
   const found = items(new Place(what, null, what), words, "words");
   if (!sizes.includes(found.length)) {
-    throw fault(Code.NOT_WORDS, new Place(what, null, what), `: there must be ${sizes.join(" or ")}, and there are ${found.length}`);
+    throw fault(Code.NOT_WORDS, new Place(what, null, what), `: there must be ${sizes.join(" or ")}, but there are ${found.length}`);
   }
   return found.map((it, k) => {
     if (Number.isInteger(it)) return it;

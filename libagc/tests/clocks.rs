@@ -228,10 +228,10 @@ fn messages() -> Result<(), AgcError> {
         (none().event(1, Some(1), Some(8_640_001), &["tick"]), "event 1: until is 8640001, but must be 0 to 8640000"),
         (none().event(1, None, None, &[]), "event 1: do must have 1 to 16 lines, but has 0"),
         (none().event(1, None, None, &["tick", "tick\n"]), r#"event 1: do 2: "tick\n": it has a line's end; give the line without it"#),
-        (none().steal(9, 9, 1), "steal 1: to is 9, and must be above from, 9"),
+        (none().steal(9, 9, 1), "steal 1: to is 9, but must be above from, 9"),
         (none().steal(0, 9, 101), "steal 1: percent is 101, but must be 0 to 100"),
         (none().steal_every(0, 5, 10, Some(8_640_001), None), "steal 1: every is 8640001, but must be 1 to 8640000"),
-        (none().steal_every(0, 9, 1, Some(8), None), "steal 1: every is 8, and must be as long as the row lasts, 9, or longer"),
+        (none().steal_every(0, 9, 1, Some(8), None), "steal 1: every is 8, but must be as long as the row lasts, 9, or longer"),
     ] {
         assert_eq!(made.unwrap_err().to_string(), told);
     }

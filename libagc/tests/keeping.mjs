@@ -47,7 +47,7 @@ function timeGoesOn() {
   want(machine.run(clock, 0) === 0 && clock.time === 0 && machine.run(clock, 3) === 3, "a run");
   want(new Clock({ seconds: 86400 }).lasts === 8640000 && new Clock({ seconds: 0.29 }).lasts === 29, "a day");
   thrown(AgcError, () => new Clock({ seconds: 86401 }), "a timetable: seconds is 86401, but must be 0 to 86400");
-  thrown(AgcError, () => new Clock({ seconds: 0.125 }), "a timetable: seconds must be whole centiseconds, and is 0.125");
+  thrown(AgcError, () => new Clock({ seconds: 0.125 }), "a timetable: seconds must be whole centiseconds, but is 0.125");
   thrown(AgcError, () => new Clock({ seconds: Number.NaN }), "a timetable: seconds is NaN, but must be 0 to 86400");
   for (const seconds of ["", [], true, null, "5"]) {
     thrown(AgcError, () => new Clock({ seconds }), `a timetable: seconds must be a number, not ${JSON.stringify(seconds)}`);
@@ -201,9 +201,9 @@ function faultsNameTheirRow() {
   thrown(AgcError, () => new Clock({ seed: 1, job: [{ at: 1, cost }] }), "job 1: cost: from is 0, but must be 1 to 1000000");
   thrown(AgcError, () => new Clock({ seed: 1, job: [{ at: 1, cost: { from: 3, to: 2 } }] }), "job 1: cost: to is 2, but must not be less than from, 3");
   thrown(AgcError, () => new Clock({ job: [{ at: 1, cost: { from: 2, to: 3 } }] }), "job 1: cost is by lot, and there is no seed");
-  thrown(AgcError, () => new Clock({ steal: [{ from: 9, to: 9, percent: 1 }] }), "steal 1: to is 9, and must be above from, 9");
+  thrown(AgcError, () => new Clock({ steal: [{ from: 9, to: 9, percent: 1 }] }), "steal 1: to is 9, but must be above from, 9");
   const short = [{ from: 0, to: 9, percent: 1, every: 8 }];
-  thrown(AgcError, () => new Clock({ steal: short }), "steal 1: every is 8, and must be as long as the row lasts, 9, or longer");
+  thrown(AgcError, () => new Clock({ steal: short }), "steal 1: every is 8, but must be as long as the row lasts, 9, or longer");
   const costs = [1, 2, 3, 2, 1].map((at) => ({ at, cost: 1 }));
   thrown(AgcError, () => new Clock({ job: costs }), "job 4: 00002 already has row 2");
   const steal = [{ from: 9, to: 12, percent: 1 }, { from: 0, to: 10, percent: 1 }];
@@ -226,7 +226,7 @@ function foreignWordsHaveNoScene() {
     want(told.text === `MPAC+3 of core set 0 (word 3) is ${found}: a word has at most fifteen bits`, told.text);
   }
   thrown(AgcError, () => findingOf([...words.slice(0, 131), null]), "words: FAILREG 2 (word 131) must be an integer, not null");
-  thrown(AgcError, () => sceneOf(words.slice(1)), "words: there must be 132 or 144, and there are 131");
+  thrown(AgcError, () => sceneOf(words.slice(1)), "words: there must be 132 or 144, but there are 131");
 }
 
 /** Untidy words are lawful, but no request leaves them so: MODE or PUSHLOC of a job, or a gap of LST1 that is minus 0. */
@@ -386,7 +386,7 @@ function messagesCanBeShown() {
     [() => machine.ask("novac 20 2000 00005"), '"novac 20 2000 00005": an address is five octal digits, 00001 to 37777, not "2000"'],
     [() => machine.ask("prio", 7, 8), "prio takes 1 number (priority), and 2 are given"],
     [() => machine.ask("tick\n"), '"tick\\n": it has a line\'s end; give the line without it'],
-    [() => new Machine({ words: new Array(131).fill(0) }), "words: there must be 132 or 144, and there are 131"],
+    [() => new Machine({ words: new Array(131).fill(0) }), "words: there must be 132 or 144, but there are 131"],
     [() => machine.ask(" tick"), '" tick": it begins with a space'],
     [() => machine.ask("tick "), '"tick ": it ends with a space'],
     [() => machine.ask("novac  20 02000 00005"), '"novac  20 02000 00005": there are two spaces after "novac"'],

@@ -86,7 +86,7 @@ class Keeping(unittest.TestCase):
         self.assertTrue(Clock({"seconds": 86400}).lasts == 8640000 and Clock({"seconds": 0.29}).lasts == 29)
         told = "a timetable: seconds is 86401, but must be 0 to 86400"
         self.assertEqual(self.raised(AgcError, lambda: Clock({"seconds": 86401})), told)
-        self.assertEqual(self.raised(AgcError, lambda: Clock({"seconds": 0.125})), "a timetable: seconds must be whole centiseconds, and is 0.125")
+        self.assertEqual(self.raised(AgcError, lambda: Clock({"seconds": 0.125})), "a timetable: seconds must be whole centiseconds, but is 0.125")
         self.assertEqual(self.raised(AgcError, lambda: Clock({"seconds": float("nan")})), "a timetable: seconds is nan, but must be 0 to 86400")
         late = {"event": [{"at": 0, "do": "tick"}, {"at": 8640001, "do": "tick"}]}
         self.assertEqual(self.raised(AgcError, lambda: Clock(late)), "event 2: at is 8640001, but must be 0 to 8640000")
@@ -205,8 +205,8 @@ class Keeping(unittest.TestCase):
             (lambda: Clock.of_state({"timetable": {}, "at": [1]}), "at must have 14 numbers, but has 1"),
             (lambda: Machine(plan={"phase": [entry, {**entry, "group": 2}, entry]}), "phase 3: phase 1 of group 1 already has row 1"),
             (lambda: Clock({"job": [{"at": k, "cost": 1} for k in (1, 2, 3, 2, 1)]}), "job 4: 00002 already has row 2"),
-            (lambda: Clock({"steal": [{"from": 9, "to": 9, "percent": 1}]}), "steal 1: to is 9, and must be above from, 9"),
-            (lambda: Clock({"steal": [{"from": 0, "to": 9, "percent": 1, "every": 8}]}), "steal 1: every is 8, and must be as long as the row lasts, 9, or longer"),
+            (lambda: Clock({"steal": [{"from": 9, "to": 9, "percent": 1}]}), "steal 1: to is 9, but must be above from, 9"),
+            (lambda: Clock({"steal": [{"from": 0, "to": 9, "percent": 1, "every": 8}]}), "steal 1: every is 8, but must be as long as the row lasts, 9, or longer"),
             (lambda: Clock({"job": [{"at": 1, "cost": {"from": 3, "to": 2}}], "seed": 1}), "job 1: cost: to is 2, but must not be less than from, 3"),
             (lambda: Clock({"job": [{"at": 1, "cost": {"from": 2, "to": 3}}]}), "job 1: cost is by lot, and there is no seed"),
             (lambda: Clock({"steal": [{"from": 9, "to": 12, "percent": 1}, {"from": 0, "to": 10, "percent": 1}]}), "steal 2: it overlaps row 1"),
@@ -373,7 +373,7 @@ class Keeping(unittest.TestCase):
             (lambda: machine.ask("novac 20"), '"novac 20": it has the form "novac P A W": P is a priority, A is an address, W is a word'),
             (lambda: machine.ask("novac 20 2000 00005"), '"novac 20 2000 00005": an address is five octal digits, 00001 to 37777, not "2000"'),
             (lambda: machine.ask("prio", 7, 8), "prio takes 1 number (priority), and 2 are given"),
-            (lambda: Machine(words=[0] * 131), "words: there must be 132 or 144, and there are 131"),
+            (lambda: Machine(words=[0] * 131), "words: there must be 132 or 144, but there are 131"),
             (lambda: Machine(plan={"task": [row]}),
              'task 1: action 2: "tick": an action is nothing, or begins with novac, findvac, rouse or list'),
         ]:

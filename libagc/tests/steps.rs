@@ -237,7 +237,7 @@ fn messages(machine: &mut Machine) {
     }
     untidy_words();
     let words = Machine::from_words(&[0; 131], Plan::new()).unwrap_err().to_string();
-    assert_eq!(words, "words: there must be 132 or 144, and there are 131");
+    assert_eq!(words, "words: there must be 132 or 144, but there are 131");
 }
 
 /// They are lawful, but no request leaves them so: MODE or PUSHLOC of a job, or a gap of LST1 that is minus 0.
