@@ -124,7 +124,7 @@ export function lateOf(run, { row, scene: { sets }, jobsFrom }, names) {
   const got = Math.round(gotBy(run, at, born, row));
   const [first, own] = [sets[0], sets.find((it, k) => it !== null && jobsFrom[k] === at)].map((it) => it?.priority ?? 0);
   const order = first <= own ? "" : ` First goes ${names.job(jobsFrom[0]) ?? "what runs"}, by its priority ${names.priority(first)}: ${name} has ${names.priority(own)}.`;
-  return { name, at, text: `${name} was asked for at ${seconds(run.ticksAt(born))} and had to end by ${took(due)}. `
+  return { name, at, text: `${name} was asked for at ${seconds(run.ticksAt(born))} and had to end by ${took(due, 100)}. `
     + `Since then ${[...others, `${name} ${got === 0 ? "none" : short(got)}`].join(", ")}.${order}` };
 }
 

@@ -25,7 +25,7 @@ function lineOf(row, name) {
   const late = deadline === null ? "–" : missed === 0 ? "0"
     : button(String(missed), () => act("late", missedRow), { title: "To the first one that is late" });
   return make("tr", { title: told }, make("td", {}, ...name), ...[late, String(priority), period === null ? "–" : short(period), costs, deadline === null ? "–" : short(deadline),
-    part === null ? "–" : percent(part), percent(share), ...[least, mean, most].map((it) => (ended === 0 ? "–" : took(it)))].map((it) => make("td", {}, it)));
+    part === null ? "–" : percent(part), percent(share), ...(ended === 0 ? ["–", "–", "–"] : [took(least), took(mean), took(most, 99)])].map((it) => make("td", {}, it)));
 }
 
 /** What the table's lines and its head say, up to the row that is shown; at the beginning, of all of the run. @param {Pick<State, "run" | "count" | "at">} now */

@@ -108,7 +108,7 @@ class Strip {
     const { job } = this.swept?.bench ?? { job: [] };
     if (missed === null) return job.some((it) => it.deadline !== undefined) ? "no deadline missed; " : "";
     const name = job.find((it) => parseInt(it.at, 8) === missed.at)?.name ?? octal(missed.at, 5);
-    return `first missed deadline ${took(missed.due)} (${visible(name)}); `;
+    return `first missed deadline ${took(missed.due, 100)} (${visible(name)}); `;
   }
 
   /** What comes first with the core sets that there are, and with the other number of them. @returns {Map<number, Firsts>[]} */
@@ -175,7 +175,7 @@ function zonesOf(values, edges, holds) {
  * @param {number} size how many times as large it is
  * @returns {import("./drawing.js").Mark[]}
  */
-function marksOf(swept, width, size) {
+export function marksOf(swept, width, size) {
   const { firsts, number: { min, max, value } } = swept;
   const [high, text] = [size * HIGH, size * TEXT];
   const xOf = (/** @type {number} */ it) => SIDE + ((it - min) / (max - min)) * (width - 2 * SIDE);

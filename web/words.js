@@ -95,8 +95,8 @@ export function seconds(centiseconds) {
   return `${(centiseconds / 100).toFixed(2)} s`;
 }
 
-/** A time in seconds, from hundredths of a centisecond, to the nearest centisecond. @param {number} hundredths */
-export const took = (hundredths) => seconds(Math.round(hundredths / 100));
+/** A time in seconds, from hundredths of a centisecond: to the nearest centisecond, or with 99 the next and with 100 the one after it. @param {number} hundredths */
+export const took = (hundredths, added = 50) => seconds(Math.floor((hundredths + added) / 100));
 
 /** A count and what is counted: `1 request`, `12 requests`. @param {number} count @param {string} what */
 export function counted(count, what) {

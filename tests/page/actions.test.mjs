@@ -3,12 +3,14 @@
 import assert from "node:assert/strict";
 import { test } from "node:test";
 import { orderOf } from "../../web/account.js";
+import { lateOf } from "../../web/because.js";
 import { summaryOf } from "../../web/drawing-words.js";
 import { fillOn } from "../../web/clock.js";
 import { parting } from "../../web/history.js";
+import { jobsOf, missedIn } from "../../web/jobs.js";
 import { judged } from "../../web/predict.js";
-import { isHidden, rowOf, textOf } from "../../web/state.js";
-import { triedText } from "../../web/story.js";
+import { isHidden, namesOf, rowOf, shownOf, textOf } from "../../web/state.js";
+import { triedText, triesOf } from "../../web/story.js";
 import { Page, read, script } from "./state.mjs";
 
 const [THREE_ALARMS, NOVAC] = [read("tests/page/three-alarms.toml"), "novac 20 04000 00005"];
@@ -183,6 +185,22 @@ test("an exercise doesn't answer itself", () => {
   assert.deepEqual(new Page("#exercise-9").act("reveal").account.slice(1), [nothing, "12 requests follow, with no alarm.", order]);
   assert.ok(orderOf(new Page('[[worker]]\nscript = ["tick"]\n[[device]]\nline = "timer"\npulses = 2\n').now.run.bench)
     .endsWith("first all requests of worker 1, then all of device 1 (timer)."));
+});
+
+/** The guidance computes from 0 to 1.5 s, and the steering waits: its first job, of 0.15 s, has to end by 1.0. Up to 5 s three guidance jobs began, and
+ * five of the steering, of which those of 0 and 2 s are late. */
+test("why a job is late is told, and what would run it sooner", () => {
+  const page = new Page("#still-too-late");
+  const { run, count } = page.now;
+  page.act("late", jobsOf(run, count).find((it) => it.missed > 0)?.missedRow);
+  assert.equal(lateOf(run, shownOf(page.now), namesOf(run))?.text, "steering was asked for at 0.01 s and had to end by 1.01 s. Since then guidance has had 1 s of computing, steering none. "
+    + "First goes guidance, by its priority 16: steering has 8.");
+  assert.deepEqual(jobsOf(run, run.rowAtTime(500, count)).map((it) => [it.began, it.ended, it.missed]), [[3, 2, 0], [5, 4, 2]]);
+  const [[name, ...given]] = triesOf(page.now, shownOf(page.now));
+  assert.equal(name, "Steering before all others?");
+  page.act(.../** @type {[string]} */ (given));
+  assert.deepEqual([missedIn(run, count), missedIn(page.now.run, page.now.count), page.differs], [10, 0, "This run differs from its document: steering priority 31 (document: 8)."]);
+  assert.deepEqual(page.act("last").tries, []);
 });
 
 test("the tour goes on by itself, and never back", () => {

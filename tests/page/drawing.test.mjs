@@ -14,6 +14,7 @@ import { hitAt } from "../../web/drawing-words.js";
 import { budgetOf, countsOf, partAsked } from "../../web/work.js";
 import { drawn, moduleBytes } from "../../web/picture.mjs";
 import { Run } from "../../web/run.js";
+import { marksOf } from "../../web/strips.js";
 import { faultsOf } from "./marks.mjs";
 
 await start(await moduleBytes());
@@ -187,6 +188,39 @@ test("nothing meets", () => {
       expect(`${name}, ${view.width} points wide`, faultsOf(pictureOf(run, run.count, view)), []);
     }
   }
+});
+
+/** Of an exercise that is asked only the first rows are drawn, in the room of all. */
+test("the rows up to one are drawn, with room for the others", () => {
+  const run = runOf(readFileSync(new URL("examples/no-vac-area.toml", TOP), "utf8"));
+  const [some, all] = [3, run.count].map((count) => pictureOf(run, count, { width: 900, all: run.count, parts: ["alarms", "sets", "axis"] }));
+  expect("as wide", some.scale.end, all.scale.end);
+  const far = (/** @type {any} */ picture) => Math.max(...picture.marks.flatMap((/** @type {any} */ it) => (it.kind === "rect" && /^[bph][0-9]/.test(it.fill) ? [it.x + it.width] : [])));
+  assert.ok(far(some) <= some.xOf(some.scale.placeOf(3) + 1) && far(all) > some.xOf(some.scale.placeOf(6)), `${far(some)} ${far(all)}`);
+  expect("its alarms", [some, all].map((it) => it.marks.filter((mark) => mark.kind === "path" && mark.stroke === "alarm").length), [0, 1]);
+});
+
+/** What is drawn is told, and what isn't, isn't: in the first second of these jobs no deadline is missed. */
+test("the legend tells the marks that there are", () => {
+  const run = runOf(readFileSync(new URL("examples/still-too-late.toml", TOP), "utf8"));
+  const entries = (/** @type {number} */ count) => {
+    const bare = pictureOf(run, count, { width: 900, parts: ["sets"] }).marks.length;
+    return pictureOf(run, count, { width: 900, parts: ["sets", "legend"] }).marks.slice(bare).flatMap((it) => (it.kind === "text" && !it.text.startsWith("set ") ? [it.text] : []));
+  };
+  expect("all", entries(run.count), ["runs", "waits", "asked for", "deadline", "deadline missed", "guidance", "steering"]);
+  expect("the first second", entries(run.rowAtTime(95, run.count)).includes("deadline missed"), false);
+});
+
+/** Values 0 to 10: up to 4 no alarm comes, and from 8 on a deadline is missed, as the bar along the bottom says; the own curve is bold. */
+test("a strip marks what comes of each value", () => {
+  const first = (/** @type {number} */ k, /** @type {number} */ time) => ({ alarm: k < 5 ? null : { code: 0o1202, time }, missed: k < 8 ? null : { at: 0, due: 100 } });
+  const firsts = [100, 90].map((time) => new Map(Array.from({ length: 11 }, (_, k) => [k, first(k, time)])));
+  const number = { name: "it", own: "%", min: 0, max: 10, value: 9, unit: "%", what: "", given: () => ({}) };
+  const marks = marksOf({ firsts, isDone: true, number }, 116, 1);
+  expect("texts", marks.flatMap((it) => (it.kind === "text" ? [it.text] : [])), ["1.00 s", "no alarm up to 4 %", "misses from 8 %"]);
+  // (a value is 10 points wide, from 8 on; what holds of one holds halfway to the next)
+  expect("where none comes, and where one misses", marks.flatMap((it) => (it.kind === "rect" && it.fill !== "line" ? [[it.fill, it.x, it.x + it.width]] : [])), [["work", 0, 53], ["alarm", 83, 116]]);
+  expect("the curves", marks.flatMap((it) => (it.kind === "path" && it.fill === undefined ? [[it.stroke, it.width, it.isDashed ?? false]] : [])), [["curve", 1, true], ["alarm", 2, false]]);
 });
 
 /** A job has one colour, before and after, and whichever run is drawn first. */

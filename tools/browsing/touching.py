@@ -113,6 +113,8 @@ def try_predictions(browser, trial):
     say("12", "1202")
     told = browser.text("hint-given"), texts(browser, "#verdict li"), browser.value("document.getElementById('show-answer') !== null")
     trial.expect(f"a first try: {told}", told[0].startswith("Not yet: Which alarm? Each findvac takes") and told[1:] == ("", True))
+    marks = browser.value("Array.from(document.querySelectorAll('#prediction label'), (it) => it.querySelector('span')?.textContent)")
+    trial.expect(f"the marks of a first try: {marks}", marks == ["\u2713 right", "not yet"])
     say("12", "1203")
     told = texts(browser, "#verdict li")
     trial.expect(told, told == "Which request is one too many? Right: 12.|Which alarm? You expected “1203”, and it is: 1201. See request 12.")

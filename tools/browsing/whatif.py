@@ -88,7 +88,7 @@ def try_jobs(browser, trial):
     # (from the fast job's priority on, 24, the fast ones are those that pile up)
     named = browser.value("Array.from(document.querySelectorAll('.strip')).at(-1).ariaLabel")
     trial.same("the slow job's priority", named, "When the first alarm comes, over slow priority: no alarm up to 23, misses with each value. "
-               "At 8: first missed deadline 1.50 s (slow); no alarm")
+               "At 8: first missed deadline 1.51 s (slow); no alarm")
     exercise(browser, 10)
     trial.expect("an exercise's jobs are told", browser.value("document.getElementById('jobs-box').hidden"))
     browser.show(browser.value("location.pathname"), "#landing-1202")
