@@ -78,10 +78,10 @@ test("callers that never stop are taken", () => {
 
 test("numbers have their ends", () => {
   for (const [line, wanted] of /** @type {[string, string | null][]} */ ([["phase 1 127", null], ["phase 1 128", 'a phase is decimal, 0 to 127, not "128"'],
-    ["phase 1 00", 'a phase is decimal, 0 to 127, not "00"'], ["phase 7 1", 'a group is 1 to 6, and this is "7"'], ["list 16250 02000 00005", null],
+    ["phase 1 00", 'a phase is decimal, 0 to 127, not "00"'], ["phase 7 1", 'a group is 1 to 6, not "7"'], ["list 16250 02000 00005", null],
     ["list 16251 02000 00005", 'a delay is decimal, 1 to 16250, not "16251"'],
     ["list 01 02000 00005", 'a delay is decimal, 1 to 16250, not "01"'],
-    ["store 7 00001", "a work word's place is 1 to 6, not \"7\""], ["prio 00", 'a priority is octal, 01 to 37, and this is "00"'], ["prio 37", null],
+    ["store 7 00001", "a work word's place is 1 to 6, not \"7\""], ["prio 00", 'a priority is octal, 01 to 37, not "00"'], ["prio 37", null],
     ["sleep 00000", 'an address is five octal digits, 00001 to 37777, not "00000"'],
     ["sleep 40000", 'an address is five octal digits, 00001 to 37777, not "40000"'],
     ["store 1 77777", null], ["", "a line may not be empty"], ["end ", "it ends with a space"],
