@@ -339,7 +339,7 @@ def crowded(hostile):
         run.returncode = os.waitstatus_to_exitcode(status)
     taken = ((used.ru_maxrss << 10) - (4 << 20)) / 200_001
     hostile.expect(f"32 workers: {taken:.0f} bytes a state", taken <= 400)
-    hostile.expect("32 workers are undecided", run.returncode == 11 and said.count(b": undecided, 200,001 states") == 3)
+    hostile.expect("32 workers are undecided", run.returncode == 11 and said.count(b": undecided, 200,000 states") == 3)
 
 
 def read(path):

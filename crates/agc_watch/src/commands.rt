@@ -141,7 +141,9 @@ const CHECK: CommandSpec = CommandSpec {
 const EXPLORE: CommandSpec = CommandSpec {
     name: "explore",
     about: "Says whether any order of the workers and devices raises an alarm",
-    example: "Example: agc_watch explore --alarm 1201 examples/race.toml",
+    example: "Exit status: 0 no order raises it; 10 one does; 11 undecided
+
+Example: agc_watch explore --alarm 1201 examples/race.toml",
     arguments: &[
         FILE,
         Value(
@@ -168,6 +170,7 @@ const EXPLORE: CommandSpec = CommandSpec {
             "Writes a shortest order that raises this alarm",
         ),
         CSV,
+        JSONL,
     ],
 };
 

@@ -326,10 +326,16 @@ impl<'a, 'b> Words<'a, 'b> {
     /// Reads the words after `explore`.
     fn explore(&mut self) -> ExploreOptions {
         let repeats = self.given.get_flag("repeat");
-        let states = self.number("states", "--states wants a whole number below 2^64");
+        let reason = "--states wants a whole number from 1 on, below 2^64";
+        let states = self.number("states", reason).unwrap_or(STATES);
+        self.check_word(states > 0, reason, self.given.get_str("states"));
         let bench = self.alarm("bench", "--bench wants 1201, 1202 or 1203");
-        let csv = self.given.get_flag("csv");
-        self.check(bench.is_none() || !csv, "--bench and --csv are two outputs");
+        let form = self.form(ONE_FORM);
+        let is_text = matches!(form, TableForm::Wide | TableForm::Narrow);
+        self.check(
+            bench.is_none() || is_text,
+            "--bench goes without --csv and --jsonl",
+        );
         let peaks = self.given.get_flag("peaks");
         self.check(
             bench.is_none() || !peaks,
@@ -339,12 +345,12 @@ impl<'a, 'b> Words<'a, 'b> {
         let is_one = bench.is_none() || alarm.is_none() || alarm == bench;
         self.check(is_one, "--alarm and --bench name two alarms");
         ExploreOptions {
-            states: states.unwrap_or(STATES),
+            states,
             alarm,
             rules: CallerRules::new(self.given.get_flag("through"), repeats, self.ticks()),
             peaks,
             bench,
-            csv,
+            form,
         }
     }
 

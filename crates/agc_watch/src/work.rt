@@ -11,10 +11,11 @@ use crate::workbench::Workbench;
 use agc_check::{ExploredBench, NamedText};
 use agc_explore::{Exploration, ExploreOptions, ReachStatus, explore, with_endless};
 use agc_peaks::{RunSummary, put_differences, scenario_bench, summary_of, write_jobs, write_peaks};
+use agc_plan::Alarm;
 use agc_play::{PlayOptions, play};
 use agc_program::{ProgramFault, flush_output};
 use agc_table::TableForm;
-use agc_text::{MOST_BYTES, ReadFault};
+use agc_text::{MOST_BYTES, ReadFault, alarm_code};
 use agc_trace::trace;
 use std::io::Input;
 
@@ -56,12 +57,11 @@ fn show_document(console: &mut Console<'_>, show: Show, input: NamedText<'_>) ->
     }
 }
 
-/// Says on standard error that no bench is written, if one was asked for.
-fn say_no_bench(rt: &HostRuntime, options: ExploreOptions) {
-    if options.bench.is_some() {
-        let _ = eprintln!(rt;
-            "agc_watch: no order that raises this alarm was found, so no bench is written"
-        );
+/// Says on standard error that no bench is written, and why, if one was asked for.
+fn say_no_bench(rt: &HostRuntime, input: NamedText<'_>, bench: Option<Alarm>, why: &str) {
+    if let Some(alarm) = bench {
+        let (before, code) = (input.before_line, alarm_code(alarm));
+        let _ = eprintln!(rt; "{before} {why} alarm {code}, so no bench is written");
     }
 }
 
@@ -69,6 +69,7 @@ fn say_no_bench(rt: &HostRuntime, options: ExploreOptions) {
 fn report_orders(
     console: &mut Console<'_>,
     options: ExploreOptions,
+    input: NamedText<'_>,
     explored: &ExploredBench,
 ) -> Result<u8, Stop> {
     let alloc = console.rt.alloc();
@@ -84,12 +85,13 @@ fn report_orders(
     };
     match explore(&asked, progress, output) {
         Ok(ReachStatus::None) => {
-            say_no_bench(console.rt, options);
+            say_no_bench(console.rt, input, options.bench, "no order raises");
             Ok(0)
         }
         Ok(ReachStatus::Some) => Ok(YES),
         Ok(ReachStatus::Undecided) => {
-            say_no_bench(console.rt, options);
+            let why = "undecided: no order was found that raises";
+            say_no_bench(console.rt, input, options.bench, why);
             Ok(UNDECIDED)
         }
         Err(fault) => Err(Stop::from(fault)),
@@ -103,7 +105,7 @@ fn explore_bench(
     input: NamedText<'_>,
 ) -> Result<u8, Stop> {
     let explored = explored_in(console.rt.alloc(), input)?;
-    report_orders(console, options, &explored)
+    report_orders(console, options, input, &explored)
 }
 
 /// Answers the lines of standard input, from a bench on. The exit status is 0.
