@@ -68,9 +68,9 @@ function lineOf(job, jobs) {
 
 /** @param {State} now @param {State} before */
 export function build(now, before) {
-  if (!differ(now, before, "built", "run")) return;
-  const { built, run } = now;
-  const isThere = built !== null && run.source.document === built.document;
+  if (!differ(now, before, "built", "run", "count")) return;
+  const { built, run, count } = now;
+  const isThere = built !== null && run.source.document === built.document && (built.jobs.length > 0 || count === 0);
   assign(by("build"), { hidden: !isThere });
   if (!isThere) return;
   const { jobs } = built;

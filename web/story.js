@@ -229,10 +229,10 @@ export function account(now, before) {
 
 /** An exercise: its question, its document, and what may be done. @param {State} now @param {State} before */
 export function question(now, before) {
-  if (!differ(now, before, "run", "count", "hidden", "predicted", "tries")) return;
+  if (!differ(now, before, "run", "count", "at", "hidden", "predicted", "tries")) return;
   const { run, count } = now;
   const { question: asked, document, exercise } = run.source;
-  assign(by("question"), { hidden: asked === "" });
+  assign(by("question"), { hidden: asked === "", className: isHidden(now) || now.at === 0 ? "question" : "question later" });
   const isChanged = asked !== "" && (run.source.isChanged || run.isChanged(count));
   const key = JSON.stringify([asked, document, isHidden(now), isChanged, now.predicted, now.tries]);
   if (by("question").dataset.key === key) return;
