@@ -3,7 +3,7 @@
  * a few is right, its options; an answer is a text, and where it is a number or addresses, spelled in any way.
  *
  * @typedef {import("./run.js").Run} Run
- * @typedef {{ label: string, options?: string[], size?: number, answer: (run: Run) => { value: string, row?: number } }} Field
+ * @typedef {{ label: string, options?: string[], size?: number, isRounded?: boolean, answer: (run: Run) => { value: string, row?: number } }} Field
  */
 import { Machine } from "../libagc/js/machine.js";
 import { readBench, requestsOf } from "./bench.js";
@@ -132,7 +132,7 @@ const missed = (run) => String(missedIn(run, run.count));
 const misses = (/** @type {string} */ label) => ({ label, answer: (/** @type {Run} */ run) => ({ value: missed(run), row: lateFirst(run)?.missedRow }) });
 const late = (/** @type {string} */ label, /** @type {string[]} */ options) => ({ label, options,
   answer: (/** @type {Run} */ run) => ({ value: namesOf(run).job(lateFirst(run)?.at ?? 0) ?? "none", row: lateFirst(run)?.missedRow }) });
-const load = (/** @type {string} */ label, /** @type {(run: Run) => Run} */ of = (run) => run) => ({ label, answer: (/** @type {Run} */ run) => ({ value: String(loadOf(of(run))) }) });
+const load = (/** @type {string} */ label, /** @type {(run: Run) => Run} */ of = (run) => run) => ({ label, isRounded: true, answer: (/** @type {Run} */ run) => ({ value: String(loadOf(of(run))) }) });
 const alarm = (/** @type {string} */ label, /** @type {any} */ change) => ({ label, options: CODES, answer: ofFirst((it) => it.code, change) });
 const request = (/** @type {string} */ label) => ({ label, answer: ofFirst((it) => it.request) });
 

@@ -32,7 +32,8 @@ export function judged(now, given) {
     const text = given[k] ?? "";
     if (text === "") return [];
     const { value, row } = answerOf(now, field);
-    return [{ label: field.label, given: text, value, row, isRight: plainly(text) === plainly(value) }];
+    const said = field.isRounded ? String(Math.round(Number(plainly(text)))) : plainly(text);
+    return [{ label: field.label, given: text, value, row, isRight: said === plainly(value) }];
   });
 }
 

@@ -5,6 +5,7 @@ import { test } from "node:test";
 import { start } from "../../libagc/js/machine.js";
 import { EXERCISES, plainly, whole } from "../../web/fields.js";
 import { moduleBytes } from "../../web/picture.mjs";
+import { judged } from "../../web/predict.js";
 
 await start(await moduleBytes());
 
@@ -25,6 +26,12 @@ for (const [number, wanted] of Object.entries(SOLVED)) {
     assert.deepEqual(found, wanted.map(plainly));
   });
 }
+
+test("a load in percent may have decimals", () => {
+  const now = { kept: [{ name: "exercise-15", text: texts[14] }], run: { source: { exercise: "exercise-15" } } };
+  const isRight = (/** @type {string} */ load) => judged(/** @type {any} */ (now), ["", "", "", load, ""])[0].isRight;
+  assert.deepEqual(["83", "83.3", "83,33 %", "84", "82.4", "most of it"].map(isRight), [true, true, true, false, false, false]);
+});
 
 test("an answer may be spelled in several ways", () => {
   for (const [one, other] of [["0.150 s", ",15".replace(",", "0,")], ["05000 02000", "02000, 05000"], ["22 %", "22"], ["None", "none"], ["048", "48"], ["4000 and 4100", "04100, 04000"]]) {
