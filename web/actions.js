@@ -346,9 +346,8 @@ const GUESS_SEEN = 4500;
 /** A guess of the tour is run: from the beginning of the document itself, so that guesses don't add up. @param {State} s @param {string} name */
 function guess(s, name) {
   const first = s.tour.tried.length === 0 ? s.run : s.before?.run ?? s.run;
-  const known = s.tour.tried.find((it) => it.name === name);
   const base = { ...s, run: first, count: first.count, at: Math.min(first.count, first.rowAtTime(s.run.ticksAt(s.at), first.count)), clock: { ...s.clock, isHere: false } };
-  const made = known ?? null;
+  const made = s.tour.tried.find((it) => it.name === name) ?? null;
   const next = made === null ? change(base, GUESSES[name].given(first.given), true) : { ...s, run: made.run, count: made.run.count,
     at: made.run.rowAtTime(s.run.ticksAt(s.at), made.run.count), history: left(s.history, s), before: s.before, ...shownAgain, clock: stopped(s) };
   const tried = made === null ? [...s.tour.tried, { name, run: next.run }] : s.tour.tried;

@@ -57,6 +57,7 @@ function add(fields, jobs) {
   const name = fields.name.value.trim() || `job ${jobs.length + 1}`;
   act("build", [...jobs, { name, every: ticks("every"), needs: ticks("needs"), priority: valueOf("priority"),
     deadline: fields.deadline.value === "" ? null : ticks("deadline"), hasArea: fields.hasArea.checked }]);
+  fields.name.select();
 }
 
 /** @param {Built} job @param {Built[]} jobs */
@@ -78,16 +79,15 @@ export function build(now, before) {
   assign(by("build-add"), { disabled: jobs.length >= MOST_BUILT });
   fill("built", jobs.map((it) => lineOf(it, jobs)));
   by("build-fields").jobs = jobs;
+  // (after a dialog has given back the focus: who pressed a key goes on with keys)
+  if (now.built !== before.built && jobs.length === 0 && (now.dialog !== before.dialog || before.tour.step > 0)) queueMicrotask(() => by("build-fields").querySelector("input").focus());
 }
 
 function makeFields() {
   /** @type {Record<string, any>} */
   const fields = { name: make("input", { type: "text", size: 12, maxLength: 30, autocomplete: "off" }), hasArea: make("input", { type: "checkbox" }) };
   for (const [id, { first, unit }] of Object.entries(FIELDS)) fields[id] = make("input", { type: "text", size: 5, value: first, title: unit, inputMode: "decimal", autocomplete: "off" });
-  const go = () => {
-    add(fields, by("build-fields").jobs);
-    fields.name.select();
-  };
+  const go = () => add(fields, by("build-fields").jobs);
   by("build-fields").addEventListener("keydown", (/** @type {KeyboardEvent} */ event) => {
     if (event.key === "Enter" && event.target instanceof HTMLInputElement) go();
   });

@@ -6,10 +6,10 @@
  */
 import { textWidth } from "./drawing-pens.js";
 import { restartOf, whenOf } from "./drawing-words.js";
-import { visible } from "./words.js";
+import { seconds, visible } from "./words.js";
 
-/** How much larger a title is than the rest, and how many names a legend tells. */
-const [TITLE, MOST_NAMED] = [1.5, 16];
+/** How much larger a title is than the rest, how many names a legend tells, and of how many alarms all have their codes. */
+const [TITLE, MOST_NAMED, MOST_CODES] = [1.5, 16, 8];
 
 /** The title, as much of it as there is room for. @param {Sheet} sheet */
 export function drawTitle(sheet) {
@@ -44,23 +44,27 @@ export function drawEvents(sheet) {
   sheet.y += line + 6;
 }
 
-/** The alarms' codes, each beside the top of its line: where they are close, in two levels, and not all of them. @param {Sheet} sheet */
+/** The alarms' codes, each beside the top of its line: where they are close, in two or three levels, and of many not all. @param {Sheet} sheet */
 export function drawCodes(sheet) {
   const { run, line, size } = sheet;
   const alarms = sheet.seen(run.alarms);
-  const gap = Math.min(...alarms.map(({ x }, k) => x - (alarms[k - 1]?.x ?? -Infinity)));
-  const [isLong, isFar] = ["alarm 0000", "0000"].map((it) => gap > 2 * textWidth(it, size, true) + 8);
-  const levels = isFar ? 1 : 2;
+  const gapOf = (/** @type {number} */ count) => Math.min(...alarms.map(({ x }, k) => x - (alarms[k - count]?.x ?? -Infinity)));
+  const [isLong, isFar] = ["alarm 0000", "0000"].map((it) => gapOf(1) > 2 * textWidth(it, size, true) + 8);
+  const levels = isFar ? 1 : alarms.length <= MOST_CODES && gapOf(2) < textWidth("0000", size, true) ? 3 : 2;
   sheet.top = sheet.y + (levels - 1) * line;
-  // (the lines of all alarms go through the lowest level, and above it only its own)
-  for (const { x } of alarms) sheet.taken.push([x - 1, x + 1, sheet.top, sheet.top + line]);
+  // (the lines of all alarms go through all levels but the highest, and through that only its own)
+  for (const { x } of alarms) sheet.taken.push([x - 1, x + 1, Math.min(sheet.top, sheet.y + line), sheet.top + line]);
   for (const { row, x } of alarms) {
     const text = restartOf(run, row).replace(isLong ? "" : "alarm ", "");
     const writes = (/** @type {number} */ top) => [x + 5, x - 5].some((at, k) =>
       sheet.text(text, at, top + line / 2, { fill: "paper", ground: "alarm", isBold: true, anchor: k === 0 ? "start" : "end" }));
-    const top = [sheet.top, sheet.y].find(writes);
+    const top = Array.from({ length: levels }, (_, k) => sheet.top - k * line).find(writes);
     if (top !== undefined) sheet.tops.set(row, top);
   }
+  // (an alarm that has moved out of what is seen isn't gone)
+  const next = run.alarms.find((row) => row <= sheet.count && sheet.scale.placeOf(row) > sheet.scale.to);
+  if (alarms.length === 0 && next !== undefined && sheet.parts.has("notes") && sheet.scale.isTime)
+    sheet.text(`${restartOf(run, next)} at ${seconds(run.ticksAt(next))} \u2192`, sheet.right, sheet.top + line / 2, { anchor: "end", fill: "alarm", isBold: true });
   sheet.y += levels * line;
 }
 

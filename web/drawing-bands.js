@@ -51,7 +51,7 @@ export function drawWork(sheet) {
   if (work.full < Infinity) {
     sheet.path([[left, level], [right, level]], { stroke: "alarm", isDashed: true });
     const middle = level - 0.75 * size;
-    writeOver(sheet, curves, ["above this line, room can run out", "room can run out", "can run out"], [[right - 4, middle], [left + 6, middle]], "alarm");
+    writeOver(sheet, curves, ["above this line, room can run out", "room can run out"], [[right - 4, middle], [left + 6, middle]], "alarm");
   }
   sheet.y = bottom + 4;
 }
@@ -112,7 +112,8 @@ export function drawBudget(sheet) {
   const { total, stolen, jobs } = budget;
   const [top, high] = [sheet.y + 6, Math.round(BUDGET_LINES * sheet.line)];
   const over = total > 100 ? `${total - 100} % too much` : `${100 - total} % free`;
-  const sums = right - left < LEAST_TOLD ? [`= ${total} %`] : [`= ${total} %`, over];
+  const period = `${seconds(asked.from).replace(/[.]?0* s$/, "")} to ${short(asked.to)}`;
+  const sums = right - left < LEAST_TOLD ? [`= ${total} %`, period] : [`= ${total} % of ${period}`, over];
   const most = Math.max(LEAST_BAR, STEP * Math.ceil(total / STEP));
   const perPoint = most / (right - left - Math.max(...sums.map((it) => textWidth(it, size, true))) - 16);
   const all = left + 100 / perPoint;
@@ -124,9 +125,8 @@ export function drawBudget(sheet) {
       edge: typeof steal === "number" ? { value: steal, perPoint, min: 0, max: 100, given: (/** @type {number} */ it) => ({ steal: it }) } : undefined },
     ...(total < 100 ? [{ name: "free", share: 100 - total, fill: "paper", ink: "soft", edge: undefined }] : []),
   ];
-  const told = `of the time from ${seconds(asked.from).replace(/[.]?0* s$/, "")} to ${short(asked.to)}`;
   sheet.name("budget", top + high / 2);
-  const end = drawParts(sheet, parts.map((it) => ({ ...it, told })), [top, high], perPoint);
+  const end = drawParts(sheet, parts.map((it) => ({ ...it, told: `of the time from ${period}` })), [top, high], perPoint);
   if (total < 100) sheet.frame([left + total / perPoint, all, top, high], { stroke: "faint", isDashed: true });
   if (total > 100) sheet.frame([all, end, top - 3, high + 6], { stroke: "alarm", width: 2 });
   else sheet.path([[all, top - 3], [all, top + high + 3]], { stroke: "ink", width: 2 });

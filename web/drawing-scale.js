@@ -7,7 +7,7 @@ import { lastUpTo, lastWhere } from "./lanes.js";
 
 /** The least part that is zoomed to, in ticks or requests; up to how many requests of a bench have a column each, even if
  * time goes by; and how far two marks of an axis are apart at least, in points: of seconds, and of requests. */
-const [LEAST_SPAN, FEW, APART] = [20, 120, [90, 45]];
+const [LEAST_SPAN, FEW, APART] = [20, 120, [64, 45]];
 
 export class Scale {
   /** @param {import("./run.js").Run} run @param {number} count @param {import("./run.js").Run} [over] whose restarts have columns @param {number} [all] for how many rows there is room */
@@ -19,7 +19,8 @@ export class Scale {
     this.lastKey = 2 * count + 1;
     this.isTime = (run.bench.seconds !== undefined || all > FEW) && run.ticksAt(all) >= LEAST_SPAN;
     this.known = Math.max(1, this.isTime ? run.ticksAt(count) : this.placeOf(count) + 1);
-    this.end = Math.max(1, this.isTime ? run.ticksAt(all) : this.placeOf(all) + 1);
+    // (of a run that is still computed there is room for all)
+    this.end = Math.max(1, !this.isTime ? this.placeOf(all) + 1 : run.isFilling ? 100 * (run.bench.seconds ?? 0) : 0, this.isTime ? run.ticksAt(all) : 0);
     this.from = 0;
     this.to = this.end;
   }

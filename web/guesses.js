@@ -9,8 +9,8 @@ function costing({ job }, name, cost) {
 
 /** @type {Record<string, { label: string, done: string, given: (bench: Bench) => any }>} */
 export const GUESSES = {
-  radar: { label: "No radar time", done: "Without the radar's 15 %", given: () => ({ steal: 0 }) },
+  radar: { label: "No stolen time", done: "Without stolen time", given: () => ({ steal: 0 }) },
   set: { label: "An eighth set", done: "With an eighth core set", given: () => ({ sets: 8 }) },
-  display: { label: "No display", done: "Without the display", given: ({ event }) => ({ event: event.filter((it) => it.name !== "monitor") }) },
+  display: { label: "No display", done: "Without the display", given: ({ event }) => ({ event: event.filter((it) => it.name !== "display") }) },
   guidance: { label: "A shorter guidance", done: "With a guidance of 1.4 s", given: (bench) => costing(bench, "SERVICER", 140) },
 };

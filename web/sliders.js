@@ -204,7 +204,7 @@ export function whatIf(now, before) {
   }
   if (differ(now, before, "run", "swept", "hidden")) drawStrips(now);
   if (differ(now, before, "run", "count", "before", "hidden")) {
-    const told = isHidden(now) ? [] : older === null ? ["Move a slider: what comes of it is told here."]
+    const told = isHidden(now) ? [] : older === null ? ["Move a slider to see what changes."]
       : [`Before: ${cameOf(older.run, older.count)}`, `Now: ${cameOf(run, count)}`];
     if (by("outcome").textContent !== told.join(" ")) fill("outcome", told.flatMap((it, k) => [k === 0 ? "" : " ", make("span", {}, it)]));
   }

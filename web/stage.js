@@ -17,7 +17,7 @@ import { seconds } from "./words.js";
 const [LEAST_DRAWN, PAPER_WIDE, PAINTED_EACH, MOST_TOLD] = [6, 980, 300, 8];
 
 /** What was painted last: nothing is heard of the chart before that; and what is to be written once the clock is there. */
-const drawn = { sheet: /** @type {Sheet} */ (/** @type {unknown} */ (null)), time: 0, late: /** @type {import("./drawing.js").Mark[]} */ ([]) };
+const drawn = { sheet: /** @type {Sheet} */ (/** @type {unknown} */ (null)), time: 0, alarms: 0, late: /** @type {import("./drawing.js").Mark[]} */ ([]) };
 
 /** The pointers that are down, by number; whether a range was drawn; the edge that is held. */
 const hand = { pointers: new Map(), isDrawn: false, edge: /** @type {any} */ (null), due: 0 };
@@ -27,8 +27,8 @@ export function themeNow() {
   return matchMedia("(prefers-color-scheme: dark)").matches ? "dark" : "light";
 }
 
-/** How high all else is in the tour and for a projector, where a letter is one high. */
-const [TOUR_BESIDE, PROJECTOR_BESIDE] = [31.2, 25.2];
+/** How high all else is in the tour, for a projector, and on the page, where a letter is one high. */
+const [TOUR_BESIDE, PROJECTOR_BESIDE, PAGE_BESIDE] = [31.2, 25.2, 33.8];
 
 /** What the tour's picture has, what its words need; and that of an exercise whose answer is hidden. */
 const [TOURED, ASKED] = [["alarms", "work", "sets", "axis", "budget", "notes"], ["alarms", "sets", "strips", "axis"]];
@@ -42,9 +42,9 @@ function sizes(now) {
   const isToured = tour.step > 0;
   if (window.innerWidth <= 640) return { high: 19, text: 12, strips: ["areas"], parts: isHidden(now) ? ASKED : isToured ? TOURED : [...PARTS, "notes"] };
   const size = parseFloat(getComputedStyle(document.documentElement).fontSize);
-  // (where little else is below it, it fills the window)
-  const below = window.innerHeight / size - (isToured ? TOUR_BESIDE : PROJECTOR_BESIDE);
-  const lanes = (isToured || isProjected) && window.innerWidth >= 54 * size ? Math.max(1.6, Math.min(3, below / (run.sets + 3.6))) : 1.87;
+  // (where little else is below it, it fills the window; and elsewhere it stands above the foot of a low one)
+  const [least, most, beside] = !(isToured || isProjected) || window.innerWidth < 54 * size ? [1.5, 1.87, PAGE_BESIDE] : [1.6, 3, isToured ? TOUR_BESIDE : PROJECTOR_BESIDE];
+  const lanes = Math.max(least, Math.min(most, (window.innerHeight / size - beside) / (run.sets + 3.6)));
   const parts = isHidden(now) ? ASKED : [...(isToured ? TOURED : isProjected ? ["events", ...TOURED] : [...PARTS, "notes"]), "legend"];
   return { high: Math.round(lanes * size), text: Math.round(0.8 * size), parts };
 }
@@ -65,7 +65,7 @@ export function pictureSeen(now) {
 function canWait({ run, seen, clock }) {
   const { sheet, time } = drawn;
   if (sheet.run !== run) return false;
-  const isPast = seen !== null && sheet.scale.to >= seen.to && run.ticksAt(sheet.count) >= seen.to;
+  const isPast = seen !== null && sheet.scale.to >= seen.to && run.ticksAt(sheet.count) >= seen.to && drawn.alarms === run.alarms.length;
   return isPast || (seen === null && run.isFilling) || ((clock.isRunning || run.isFilling) && performance.now() - time < PAINTED_EACH);
 }
 
@@ -89,7 +89,7 @@ function paintNow(now) {
   const { scale: { from, to, isWhole }, top, bottom, marks } = sheet;
   const late = marks.filter(({ ends }) => ends !== undefined && ends > sheet.left);
   paint(by("lanes-chart"), { ...sheet, marks: marks.filter((it) => !late.includes(it)) });
-  Object.assign(drawn, { sheet, late, time: performance.now() });
+  Object.assign(drawn, { sheet, late, time: performance.now(), alarms: now.run.alarms.length });
   by("chart-box").dataset.seen = `${Math.round(from)}-${Math.round(to)}`;
   assign(by("fit"), { disabled: isWhole });
   assign(by("dismiss"), { hidden: now.before === null });
@@ -172,6 +172,7 @@ function dragEdge(x) {
   hand.due = requestAnimationFrame(() => {
     hand.due = 0;
     act("change", edge.given(value), undefined, `the edge of ${name}`);
+    set(by("block"), drawn.sheet.bands.find((it) => it.kind === "edge" && it.name === name)?.text ?? "");
   });
 }
 

@@ -2,7 +2,7 @@
 import { accountOf, nameOfRestart, orderOf, standingOf } from "./account.js";
 import { becauseOf, lateOf, strawOf } from "./because.js";
 import { outcomeOf } from "./drawing-words.js";
-import { assign, button, by, fill, make, set, withCode, withNumbers } from "./dom.js";
+import { assign, attribute, button, by, fill, make, set, withCode, withNumbers } from "./dom.js";
 import { FIRST_ASKED } from "./first.js";
 import { GUESSES } from "./guesses.js";
 import { loadOf } from "./job-table.js";
@@ -74,7 +74,7 @@ export function triedText({ name, run }) {
     const when = `at ${seconds(run.ticksAt(first))}`;
     return number === 0o1202 ? `${done}: still alarm 1202, ${when}.` : `${done}: alarm ${octal(number, 4)} ${when}: ${FULL[number]}.`;
   }
-  return run.isFilling ? `${done}: no alarm up to ${seconds(run.head.now)} …` : `${done}: no alarm in ${run.bench.seconds} s.`;
+  return run.isFilling ? `${done}: no alarm up to ${seconds(run.head.now)} …` : `${done}: no alarm in ${run.bench.seconds}\u00a0s.`;
 }
 
 /** Buttons of an element, made anew only where they differ. @param {string} id @param {Try[]} steps @param {(it: Try, k: number) => any} [more] */
@@ -86,8 +86,8 @@ function buttons(id, steps, more = () => ({})) {
   place.dataset.key = key;
   const isIn = place.contains(document.activeElement);
   fill(place, steps.map((it, k) => button(it[0], () => act(.../** @type {[string]} */ (place.steps[k].slice(1))), more(it, k))));
-  // (what stood here had the focus: what stands here now has it)
-  if (isIn) place.querySelector("button")?.focus({ preventScroll: true });
+  // (what stood here had the focus: what stands here now has it, or the tour's text above)
+  if (isIn) (id === "guide-steps" ? by("guide-text") : place.querySelector("button"))?.focus({ preventScroll: true });
 }
 
 /** @param {State} now @param {State} before */
@@ -112,6 +112,7 @@ export function tour(now, before) {
   buttons("guide-steps", [...steps, ...back, [step === 5 ? "Done" : "Skip", "tour", 0]], (it, k) => ({ class: lookOf(it, k, step) }));
   const lines = tried.map(triedText);
   const list = by("tried");
+  attribute(list, "aria-busy", String(tried.some((it) => it.run.isFilling)));
   if (list.childElementCount !== lines.length) fill(list, lines.map(() => make("li")));
   lines.forEach((it, k) => {
     set(list.children[k], it);

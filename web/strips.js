@@ -124,7 +124,7 @@ class Strip {
     const size = parseFloat(getComputedStyle(document.documentElement).fontSize) / 16;
     paint(canvas, /** @type {any} */ ({ width, height: size * HIGH, theme: themeNow(), marks: marksOf({ firsts, isDone: swept.isDone, number }, width, size) }));
     set(this.said, `At ${this.told(number.value)}`);
-    attribute(canvas, "aria-label", `When the first alarm comes, over ${number.name}: ${toldOf({ firsts, isDone: true, number }).join(", ")}. ${this.said.textContent}`);
+    attribute(canvas, "aria-label", `When the first alarm comes, over ${number.name}: ${toldOf({ firsts, isDone: swept.isDone, number }).join(", ")}. ${this.said.textContent}`);
     canvas.dataset.done = swept.isDone ? "yes" : "no";
   }
 }
@@ -151,7 +151,7 @@ function toldOf({ firsts: [own], isDone, number }) {
   const [first, from, to] = [values.findIndex((it) => own.get(it)?.alarm !== null), values.findIndex((it) => own.get(it)?.missed !== null),
     values.findIndex((it, k) => own.get(it)?.missed !== null && own.get(values[k + 1])?.missed === null)];
   const text = (/** @type {number} */ k) => valueText(number, values[k]);
-  const none = !isDone ? "no alarm" : first < 0 ? "no alarm with any value" : first === 0 ? "an alarm with each value" : `no alarm up to ${text(first - 1)}`;
+  const none = !isDone ? "computing \u2026" : first < 0 ? "no alarm with any value" : first === 0 ? "an alarm with each value" : `no alarm up to ${text(first - 1)}`;
   const misses = !isDone ? "misses" : from > 0 ? `misses from ${text(from)}` : to < 0 ? "misses with each value" : `misses up to ${text(to)}`;
   return from < 0 ? [none] : [none, misses];
 }

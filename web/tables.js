@@ -91,7 +91,7 @@ function setBox(shown, k, names, colours) {
   const stands = runs ? "runs" : job.asleep ? "asleep" : isNamed ? "next to run" : "waits";
   const area = job.area > 0 ? `, area ${job.area}` : "";
   const colour = 1 + colours.of(jobsFrom[k]);
-  const name = names.job(job.at);
+  const name = names.job(jobsFrom[k]);
   return { name: `set ${k}`, strong: name ?? `job ${job.number}`, isNew,
     style: `${job.asleep ? `asleep h${colour}` : runs ? `j${colour} runs` : `s${colour}`}${comes(shown, job)}`,
     more: [...(name === undefined ? [`${stands}${area}`, `at ${octal(job.at, 5)}`] : [stands, `job ${job.number}${area}`]), `priority ${names.priority(job.priority)}`] };
@@ -103,7 +103,7 @@ function areaBox({ scene, last, jobsFrom }, k, names, colours) {
   const set = scene.sets.findIndex((it) => it?.number === owner);
   const isNew = last !== null && owner !== last.areas[k];
   if (owner === 0) return { name: `area ${k + 1}`, strong: "free", style: "free", isNew };
-  const name = names.job(scene.sets[set]?.at ?? 0);
+  const name = names.job(jobsFrom[set] ?? 0);
   return { name: `area ${k + 1}`, strong: name ?? `job ${owner}`, more: name === undefined ? [] : [`job ${owner}`], style: `${scene.running === owner ? "j" : "s"}${1 + colours.of(jobsFrom[set])}`, isNew };
 }
 

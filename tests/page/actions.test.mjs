@@ -211,7 +211,7 @@ test("the tour goes on by itself, and never back", () => {
   assert.deepEqual([step("guess", "set"), step("guess", "radar"), step("guess", "display"), step("guess", "guidance"), step("first")], [4, 4, 4, 4, 4]);
   for (const { run } of page.now.tour.tried) fillOn(run, Infinity);
   assert.deepEqual(page.now.tour.tried.map(triedText), ["With an eighth core set: alarm 1201 at 38.01 s: all five VAC areas, which some jobs need for larger work, are taken.",
-    ...["Without the radar's 15 %", "Without the display", "With a guidance of 1.4 s"].map((it) => `${it}: no alarm in 600 s.`)]);
+    ...["Without stolen time", "Without the display", "With a guidance of 1.4 s"].map((it) => `${it}: no alarm in 600\u00a0s.`)]);
   assert.equal(step("kept", "landing"), 0);
 });
 

@@ -107,7 +107,7 @@ def try_minute(browser, trial, size):
     before = browser.value(said)
     trial.expect(f"it goes on behind the alarm: {before}", steady(browser, said, 10) == before and "alarm 1202" in before and "Run" in before)
     trial.expect(f"the state: {browser.text('state')}", browser.text("state") == "30.50 s: ALARM 1202, no free core set")
-    trial.same("a guess", texts(browser, "#guide-steps button"), "No radar time|An eighth set|No display|A shorter guidance|Back|Skip")
+    trial.same("a guess", texts(browser, "#guide-steps button"), "No stolen time|An eighth set|No display|A shorter guidance|Back|Skip")
     trial.expect(f"what: {told}", "Alarm 1202: one more job, display, asks for a core set, and all seven are taken." in told)
     trial.expect(f"why: {told}", "Each SERVICER needs 1.7 s, but gets only 1.5 s of every two. So old ones are still alive when new ones come: five at once." in told)
     trial.expect("what came is veiled", browser.value("document.getElementById('future').hidden"))
@@ -119,7 +119,7 @@ def try_minute(browser, trial, size):
     if size == PHONE:
         high = browser.value("document.getElementById('chart-box').getBoundingClientRect().height / innerHeight")
         trial.expect(f"the chart takes {high:.2f} of a phone", high <= 0.41)
-    for name in ("An eighth set", "No radar time", "No display", "A shorter guidance"):
+    for name in ("An eighth set", "No stolen time", "No display", "A shorter guidance"):
         # (one isn't waited for)
         press(browser, name)
         trial.expect("the card goes back", browser.value(GUIDE).startswith("4 of 5. "))

@@ -110,4 +110,4 @@ def try_changes(browser, trial):
     both = browser.value("document.getElementById('dismiss').hidden")
     trial.expect("before isn't on the chart", not both)
     browser.click("dismiss")
-    trial.same("dismissed", (browser.value("document.getElementById('dismiss').hidden"), browser.text("outcome")), (True, "Move a slider: what comes of it is told here."))
+    trial.same("dismissed", (browser.value("document.getElementById('dismiss').hidden"), browser.text("outcome")), (True, "Move a slider to see what changes."))
