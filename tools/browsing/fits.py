@@ -177,7 +177,7 @@ def try_projector(browser, trial, path):
         trial.expect("the projector stays", browser.value(f"{SHOWN}('examples') && !{SHOWN}('projector')"))
     browser.show(path, "#exercise-3")
     browser.press("P")
-    trial.expect("an exercise without its question and tables", browser.value(f"{SHOWN}('question') && {SHOWN}('sets') && !{SHOWN}('line')"))
+    trial.expect("an exercise without its question and chart", browser.value(f"{SHOWN}('question') && {SHOWN}('chart-box') && !{SHOWN}('line')"))
 
 
 # How far the request line is below the bar, and above the window's end.
