@@ -69,7 +69,7 @@ ROLES = """(() => {
   for (const it of all('[role]')) {
     const role = it.getAttribute('role');
     expect(role in needs, `the role ${role}`);
-    for (const name of needs[role] ?? []) expect(it.hasAttribute(name), `${role} ${it.id}: no ${name}`);
+    for (const name of needs[role] ?? []) expect(it.hasAttribute(name) || it.hasAttribute(`${name}ledby`), `${role} ${it.id}: no ${name}`);
     if (role === 'option') expect(it.parentElement.role === 'listbox', `an option in ${it.parentElement.id}`);
     if (role === 'listbox') expect(Array.from(it.children).every((one) => one.role === 'option'), it.id);
   }
