@@ -216,12 +216,14 @@ impl<'a, 'b> Words<'a, 'b> {
     }
 
     /// The value of a word that is given, as this reads it. One that it can't read is noted.
-    fn value<T>(
+    fn value<T, Read: Fn(&str) -> Option<T>>(
         &mut self,
         name: &str,
         reason: &'static str,
-        read: impl Fn(&str) -> Option<T>,
-    ) -> Option<T> {
+        read: Read,
+    ) -> Option<T>
+        requires { Read.IsAlwaysCallable read }
+    {
         let word = self.given.get_str(name)?;
         let value = read(word);
         self.check_word(value.is_some(), reason, Some(word));
