@@ -2,12 +2,12 @@
 
 #include <stdio.h>
 
-/* How many rows of costs there are up to the first wrong one. The other lists go the same way. */
+/* Which row of costs is the first wrong one, from 0 on. The other lists go the same way. */
 static unsigned wrong_cost(AgcTimetable times) {
     size_t all = times.cost_count;
     for (times.cost_count = 1; times.cost_count < all; times.cost_count++)
         if (agc_clock_check(&times) != AGC_OK) break;
-    return (unsigned)times.cost_count;
+    return (unsigned)times.cost_count - 1;
 }
 
 int main(void) {
@@ -20,9 +20,9 @@ int main(void) {
 
     uint32_t code = agc_plan_check(&plan);
     if (code != AGC_OK)
-        printf("task row %u: %s\n", (unsigned)agc_plan_first(&plan) + 1, agc_code_text(code));
+        printf("rows[%u]: %s\n", (unsigned)agc_plan_first(&plan), agc_code_text(code));
     code = agc_clock_check(&times);
-    if (code != AGC_OK) printf("cost %u: %s\n", wrong_cost(times), agc_code_text(code));
+    if (code != AGC_OK) printf("costs[%u]: %s\n", wrong_cost(times), agc_code_text(code));
 
     if (agc_clear(words, 7) != AGC_OK) return 1;
     words[AGC_PHASE_PLACE + 3] = 5;
