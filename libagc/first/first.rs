@@ -11,7 +11,7 @@ fn main() -> Result<(), AgcError> {
     }
     let job = machine.scene().sets[0].expect("it runs");
     println!("{step}, then job {} runs at {:05o}", job.number, job.at);
-    while step.fired().is_empty() {
+    while step.fired.is_empty() {
         step = machine.ask("tick")?;
     }
     println!("{step}");

@@ -9,8 +9,8 @@ fn main() -> Result<(), AgcError> {
         .phase(5, 1, "findvac 20 04000 00007", "list 200 02000 00005")?;
     let timetable = Timetable::new(600)
         .steal(0, 8_640_000, 15)?
-        .job(0o4000, 170, "end")?
-        .job(0o5000, 12, "end")?
+        .job(0o4000, 170, &["end"])?
+        .job(0o5000, 12, &["end"])?
         .event(0, None, None, &["phase 5 1", "list 1 02000 00005"])?
         .event(49, None, None, &["list 1 02100 00005"])?;
     let (mut machine, mut clock) = (Machine::new(7, plan)?, Clock::new(timetable)?);

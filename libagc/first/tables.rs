@@ -19,11 +19,11 @@ fn main() {
         }
     }
 
-    let job = AgcPhaseEntry { group: 4, phase: 5, job: FINDVAC, priority: 0o25, job_at: 0o6000, job_bank: 7, ..AgcPhaseEntry::default() };
+    let job = AgcPhaseEntry { group: 4, phase: 5, job: RequestKind::Findvac, priority: 0o25, job_at: 0o6000, job_bank: 7, ..AgcPhaseEntry::default() };
     let plan = [AgcPhaseEntry { delay: 10, task_at: 0o6100, task_bank: 7, ..job }];
     agc_set_phase(&mut words, 7, 4, 5);
     let mut reply = agc_findvac(&mut words, 7, 0o30, 0o2100, 5);
-    while reply.reply != ALARMED {
+    while reply.reply != Kind::Alarmed {
         reply = agc_findvac(&mut words, 7, 0o30, 0o2100, 5);
     }
     agc_begin(&mut words, 7, reply.number, &plan);
@@ -31,5 +31,5 @@ fn main() {
     println!("alarm {:o}, then job {runs}, at {:05o}", reply.number, words[8]);
 
     let reply = agc_novac(&mut words, 7, 32, 0o2000, 5);
-    println!("priority 32: code {}", reply.code);
+    println!("priority 32: code {}", reply.code as u32);
 }

@@ -2,108 +2,6 @@
 
 use std::marker::PhantomData;
 
-/// The call was served.
-pub const OK: u32 = 0;
-/// The number of core sets is neither 7 nor 8.
-pub const NO_SUCH_SETS: u32 = 1;
-/// A number of the image is above 077777.
-pub const NOT_WORDS: u32 = 2;
-/// The image isn't lawful; agc_recover: the phase words don't agree.
-pub const UNLAWFUL: u32 = 3;
-/// A number of the call is out of its range.
-pub const OUT_OF_RANGE: u32 = 4;
-/// A word of the call is above 077777.
-pub const NOT_A_WORD: u32 = 5;
-/// A task is due, or at agc_dispatch none is.
-pub const NOT_NOW: u32 = 6;
-/// The image is lawful, and no step leaves it so: MODE or PUSHLOC of a job isn't 0, or a gap of
-/// LST1 is 077777, which would have to be 0.
-pub const UNTIDY: u32 = 8;
-/// A number of the plan is out of its range.
-pub const PLAN_RANGE: u32 = 9;
-/// One task, of one address and bank, has two rows of the plan.
-pub const TASK_TWICE: u32 = 10;
-/// One group and phase has two entries of the plan.
-pub const PHASE_TWICE: u32 = 11;
-/// Each of the six groups has an entry with a job of FINDVAC, and there are five VAC areas.
-pub const TOO_MANY_AREAS: u32 = 12;
-/// A line spells no request, or no action.
-pub const NOT_SPELLED: u32 = 13;
-/// A text doesn't fit: the number says how many bytes it wants.
-pub const NO_ROOM: u32 = 14;
-/// A number of the timetable is out of its range.
-pub const TIME_RANGE: u32 = 15;
-/// Two rows of stolen time hold at one time.
-pub const STEAL_TWICE: u32 = 16;
-/// One address has two costs.
-pub const COST_TWICE: u32 = 17;
-/// As many requests were served as the allowance says.
-pub const SPENT: u32 = 19;
-/// As many requests were served since the last era began as the limit says.
-pub const LOG_FULL: u32 = 20;
-/// A job was established: its number.
-pub const ESTABLISHED: u32 = 1;
-/// The running job ended or sleeps: who runs now.
-pub const LEFT: u32 = 2;
-/// The running job ended or sleeps, and no job is running now.
-pub const IDLE: u32 = 3;
-/// A sleeper was awakened: its number.
-pub const ROUSED: u32 = 4;
-/// No job sleeps at that address.
-pub const NO_SLEEPER: u32 = 5;
-/// No job is running, so there is none to act on.
-pub const NO_JOB: u32 = 6;
-/// Who runs now.
-pub const RUNS: u32 = 7;
-/// A work word was set.
-pub const STORED: u32 = 8;
-/// A task was listed.
-pub const LISTED: u32 = 9;
-/// A table is full: the alarm, as below. A single call changed nothing, and with a step an era
-/// began.
-pub const ALARMED: u32 = 10;
-/// A phase was set.
-pub const PHASED: u32 = 11;
-/// A tick passed.
-pub const TICKED: u32 = 12;
-/// An action raised this alarm in a tick, and an era began.
-pub const TICK_ALARMED: u32 = 13;
-/// A restart or a fresh start, with which an era began.
-pub const RESTARTED: u32 = 14;
-/// Of a plan alone: nothing is done.
-pub const NOTHING: u32 = 0;
-/// A priority, 1 to 31, an address, 1 to 16383, a bank's word.
-pub const NOVAC: u32 = 1;
-/// The same.
-pub const FINDVAC: u32 = 2;
-/// End of job.
-pub const END: u32 = 3;
-/// An address.
-pub const SLEEP: u32 = 4;
-/// An address.
-pub const ROUSE: u32 = 5;
-/// A priority.
-pub const PRIO: u32 = 6;
-/// Change of job.
-pub const CHANGE: u32 = 7;
-/// A work word's place, 1 to 6, and the word.
-pub const STORE: u32 = 8;
-/// A delay, 1 to 16250, an address, a bank's word.
-pub const LIST: u32 = 9;
-/// A centisecond passes.
-pub const TICK: u32 = 10;
-/// A group, 1 to 6, and its phase, 0 to 127.
-pub const PHASE: u32 = 11;
-/// A software restart.
-pub const RESTART: u32 = 12;
-/// A fresh start.
-pub const FRESH: u32 = 13;
-/// Timer.
-pub const TIMER: u32 = 0;
-/// Key.
-pub const KEY: u32 = 1;
-/// Radar.
-pub const RADAR: u32 = 2;
 pub const MPAC: usize = 0;
 pub const MODE: usize = 7;
 pub const LOC: usize = 8;
@@ -143,12 +41,12 @@ pub type PhaseWords = [u16; PHASE_WORDS];
 pub type AgcAction = AgcRequest;
 
 /// What a call lacked: the first that applies.
-#[derive(Clone, Copy, Debug, PartialEq, Eq, Hash)]
+#[derive(Clone, Copy, Debug, Default, PartialEq, Eq, Hash)]
 #[non_exhaustive]
 #[repr(u32)]
 pub enum Code {
     /// The call was served.
-    Ok = 0,
+    #[default] Ok = 0,
     /// The number of core sets is neither 7 nor 8.
     NoSuchSets = 1,
     /// A number of the image is above 077777.
@@ -189,32 +87,6 @@ pub enum Code {
 }
 
 impl Code {
-    /// What has this number in the library, if anything has.
-    pub const fn of(number: u32) -> Option<Code> {
-        Some(match number {
-            0 => Code::Ok,
-            1 => Code::NoSuchSets,
-            2 => Code::NotWords,
-            3 => Code::Unlawful,
-            4 => Code::OutOfRange,
-            5 => Code::NotAWord,
-            6 => Code::NotNow,
-            8 => Code::Untidy,
-            9 => Code::PlanRange,
-            10 => Code::TaskTwice,
-            11 => Code::PhaseTwice,
-            12 => Code::TooManyAreas,
-            13 => Code::NotSpelled,
-            14 => Code::NoRoom,
-            15 => Code::TimeRange,
-            16 => Code::StealTwice,
-            17 => Code::CostTwice,
-            19 => Code::Spent,
-            20 => Code::LogFull,
-            _ => return None,
-        })
-    }
-
     /// As a text.
     pub const fn text(self) -> &'static str {
         match self {
@@ -242,10 +114,12 @@ impl Code {
 }
 
 /// The kinds of replies.
-#[derive(Clone, Copy, Debug, PartialEq, Eq, Hash)]
+#[derive(Clone, Copy, Debug, Default, PartialEq, Eq, Hash)]
 #[non_exhaustive]
 #[repr(u32)]
 pub enum Kind {
+    /// There is no reply: the call lacked something.
+    #[default] Nothing = 0,
     /// A job was established: its number.
     Established = 1,
     /// The running job ended or sleeps: who runs now.
@@ -278,30 +152,10 @@ pub enum Kind {
 }
 
 impl Kind {
-    /// What has this number in the library, if anything has.
-    pub const fn of(number: u32) -> Option<Kind> {
-        Some(match number {
-            1 => Kind::Established,
-            2 => Kind::Left,
-            3 => Kind::Idle,
-            4 => Kind::Roused,
-            5 => Kind::NoSleeper,
-            6 => Kind::NoJob,
-            7 => Kind::Runs,
-            8 => Kind::Stored,
-            9 => Kind::Listed,
-            10 => Kind::Alarmed,
-            11 => Kind::Phased,
-            12 => Kind::Ticked,
-            13 => Kind::TickAlarmed,
-            14 => Kind::Restarted,
-            _ => return None,
-        })
-    }
-
     /// As a text.
     pub const fn text(self) -> &'static str {
         match self {
+            Kind::Nothing => "there is no reply",
             Kind::Established => "a job was established",
             Kind::Left => "the running job ended or sleeps, and another runs",
             Kind::Idle => "the running job ended or sleeps, and no job is running",
@@ -318,6 +172,51 @@ impl Kind {
             Kind::Restarted => "an era began by a restart or a fresh start",
         }
     }
+}
+
+/// The kinds of requests.
+#[derive(Clone, Copy, Debug, Default, PartialEq, Eq, Hash)]
+#[non_exhaustive]
+#[repr(u32)]
+pub enum RequestKind {
+    /// Of a plan alone: nothing is done.
+    #[default] Nothing = 0,
+    /// A priority, 1 to 31, an address, 1 to 16383, a bank's word.
+    Novac = 1,
+    /// The same.
+    Findvac = 2,
+    /// End of job.
+    End = 3,
+    /// An address.
+    Sleep = 4,
+    /// An address.
+    Rouse = 5,
+    /// A priority.
+    Prio = 6,
+    /// Change of job.
+    Change = 7,
+    /// A work word's place, 1 to 6, and the word.
+    Store = 8,
+    /// A delay, 1 to 16250, an address, a bank's word.
+    List = 9,
+    /// A centisecond passes.
+    Tick = 10,
+    /// A group, 1 to 6, and its phase, 0 to 127.
+    Phase = 11,
+    /// A software restart.
+    Restart = 12,
+    /// A fresh start.
+    Fresh = 13,
+}
+
+/// The lines of devices.
+#[derive(Clone, Copy, Debug, Default, PartialEq, Eq, Hash)]
+#[non_exhaustive]
+#[repr(u32)]
+pub enum Device {
+    #[default] Timer = 0,
+    Key = 1,
+    Radar = 2,
 }
 
 /// What each place of the words is called.
@@ -469,20 +368,12 @@ pub const LISTING_KINDS: Kinds = Kinds {
     otherwise: "a task begins with list",
 };
 
-/// The lines of devices.
-#[derive(Clone, Copy, Debug, PartialEq, Eq, Hash)]
-pub enum Device {
-    Timer = 0,
-    Key = 1,
-    Radar = 2,
-}
-
 /// What a request is answered: the kind of the reply, and its number, or 0.
 #[repr(C)]
 #[derive(Clone, Copy, Debug, Default, PartialEq, Eq)]
 pub struct AgcReply {
-    pub code: u32,
-    pub reply: u32,
+    pub code: Code,
+    pub reply: Kind,
     pub number: u32,
 }
 
@@ -490,7 +381,7 @@ pub struct AgcReply {
 #[repr(C)]
 #[derive(Clone, Copy, Debug, Default, PartialEq, Eq)]
 pub struct AgcNumber {
-    pub code: u32,
+    pub code: Code,
     pub number: u32,
 }
 
@@ -498,7 +389,7 @@ pub struct AgcNumber {
 #[repr(C)]
 #[derive(Clone, Copy, Debug, Default, PartialEq, Eq)]
 pub struct AgcTruth {
-    pub code: u32,
+    pub code: Code,
     pub truth: bool,
 }
 
@@ -506,7 +397,7 @@ pub struct AgcTruth {
 #[repr(C)]
 #[derive(Clone, Copy, Debug, Default, PartialEq, Eq)]
 pub struct AgcTask {
-    pub code: u32,
+    pub code: Code,
     pub at: u32,
     pub bank: u32,
 }
@@ -517,7 +408,7 @@ pub struct AgcTask {
 #[repr(C)]
 #[derive(Clone, Copy, Debug, Default, PartialEq, Eq)]
 pub struct AgcJob {
-    pub code: u32,
+    pub code: Code,
     pub number: u32,
     pub priority: u32,
     pub at: u32,
@@ -532,7 +423,7 @@ pub struct AgcJob {
 #[repr(C)]
 #[derive(Clone, Copy, Debug, Default, PartialEq, Eq)]
 pub struct AgcWaiting {
-    pub code: u32,
+    pub code: Code,
     pub at: u32,
     pub bank: u32,
     pub left: u32,
@@ -559,7 +450,7 @@ pub struct AgcScene {
 #[repr(C)]
 #[derive(Clone, Copy, Debug, Default, PartialEq, Eq)]
 pub struct AgcFinding {
-    pub code: u32,
+    pub code: Code,
     pub rule: u32,
     pub place: u32,
     pub found: u32,
@@ -570,7 +461,7 @@ pub struct AgcFinding {
 #[repr(C)]
 #[derive(Clone, Copy, Debug, Default, PartialEq, Eq)]
 pub struct AgcPhases {
-    pub code: u32,
+    pub code: Code,
     pub phases: [u8; 6],
 }
 
@@ -578,7 +469,7 @@ pub struct AgcPhases {
 #[repr(C)]
 #[derive(Clone, Copy, Debug, Default, PartialEq, Eq)]
 pub struct AgcSum {
-    pub code: u32,
+    pub code: Code,
     pub bits: u32,
     pub overflow: bool,
 }
@@ -587,7 +478,7 @@ pub struct AgcSum {
 #[repr(C)]
 #[derive(Clone, Copy, Debug, Default, PartialEq, Eq)]
 pub struct AgcValue {
-    pub code: u32,
+    pub code: Code,
     pub value: i32,
 }
 
@@ -595,7 +486,7 @@ pub struct AgcValue {
 #[repr(C)]
 #[derive(Clone, Copy, Debug, Default, PartialEq, Eq)]
 pub struct AgcRequest {
-    pub kind: u32,
+    pub kind: RequestKind,
     pub first: u32,
     pub second: u32,
     pub third: u32,
@@ -625,8 +516,8 @@ pub struct AgcFired {
 #[repr(C)]
 #[derive(Clone, Copy, Debug, Default, PartialEq, Eq)]
 pub struct AgcStep {
-    pub code: u32,
-    pub reply: u32,
+    pub code: Code,
+    pub reply: Kind,
     pub number: u32,
     pub fired: u32,
     pub action: u32,
@@ -663,7 +554,7 @@ pub struct AgcBounds {
 pub struct AgcPhaseEntry {
     pub group: u32,
     pub phase: u32,
-    pub job: u32,
+    pub job: RequestKind,
     pub priority: u32,
     pub job_at: u32,
     pub job_bank: u32,
@@ -787,7 +678,7 @@ pub struct AgcClock {
 /// group of phase 0, or of one that has no entry, begins nothing. OUT_OF_RANGE is that of the
 /// alarm; the codes of agc_plan_check are those of the entries, at which the trusted form doesn't
 /// look.
-pub fn agc_begin(words: &mut [u16; WORDS], sets: u32, alarm: u32, entries: &[AgcPhaseEntry]) -> u32 {
+pub fn agc_begin(words: &mut [u16; WORDS], sets: u32, alarm: u32, entries: &[AgcPhaseEntry]) -> Code {
     // SAFETY: what is lent outlives the call, which is told how much it is.
     unsafe { raw::agc_begin(words, sets, alarm, entries.as_ptr(), entries.len()) }
 }
@@ -805,13 +696,13 @@ pub fn agc_power_up(words: &mut [u16; WORDS], sets: u32, entries: &[AgcPhaseEntr
 /// The request that a line of a script spells, of so many bytes, without the line's end: OK, or
 /// NOT_SPELLED, and then *request stays. Numbers that the kind doesn't have become 0.
 /// agc_read_action: `nothing`, or the line of a novac, findvac, rouse or list.
-pub fn agc_read_request(text: &[u8], request: &mut AgcRequest) -> u32 {
+pub fn agc_read_request(text: &[u8], request: &mut AgcRequest) -> Code {
     // SAFETY: what is lent outlives the call, which is told how much it is.
     unsafe { raw::agc_read_request(text.as_ptr(), text.len(), request) }
 }
 
 /// .
-pub fn agc_read_action(text: &[u8], action: &mut AgcRequest) -> u32 {
+pub fn agc_read_action(text: &[u8], action: &mut AgcRequest) -> Code {
     // SAFETY: what is lent outlives the call, which is told how much it is.
     unsafe { raw::agc_read_action(text.as_ptr(), text.len(), action) }
 }
@@ -843,7 +734,7 @@ pub fn agc_write_report(words: &[u16; WORDS], sets: u32, totals: &AgcTotals, tex
 /// done for it, at most ACTIONS actions each, of which NOTHING asks for nothing. The requests
 /// come in order in the first places of `requests`, the others stay, and the number says how many
 /// they are. OUT_OF_RANGE for the line; PLAN_RANGE where there are more actions, or one is none.
-pub fn agc_pulse(line: u32, key: &[AgcRequest], radar: &[AgcRequest], requests: &mut [AgcRequest; ACTIONS]) -> AgcNumber {
+pub fn agc_pulse(line: Device, key: &[AgcRequest], radar: &[AgcRequest], requests: &mut [AgcRequest; ACTIONS]) -> AgcNumber {
     // SAFETY: what is lent outlives the call, which is told how much it is.
     unsafe { raw::agc_pulse(line, key.as_ptr(), key.len(), radar.as_ptr(), radar.len(), requests) }
 }
@@ -854,13 +745,13 @@ pub mod raw {
 
     #[link(name = "agc", kind = "static")]
     unsafe extern "C" {
-        pub fn agc_begin(words: &mut [u16; WORDS], sets: u32, alarm: u32, entries: *const AgcPhaseEntry, entry_count: usize) -> u32;
+        pub fn agc_begin(words: &mut [u16; WORDS], sets: u32, alarm: u32, entries: *const AgcPhaseEntry, entry_count: usize) -> Code;
         /// As `agc_begin`, of an array that an earlier call left so.
         ///
         /// # Safety
         ///
         /// The array is as an earlier call with this number of core sets left it: agc.h has more.
-        pub fn agc_begin_trusted(words: &mut [u16; WORDS], sets: u32, alarm: u32, entries: *const AgcPhaseEntry, entry_count: usize) -> u32;
+        pub fn agc_begin_trusted(words: &mut [u16; WORDS], sets: u32, alarm: u32, entries: *const AgcPhaseEntry, entry_count: usize) -> Code;
         pub fn agc_power_up(words: &mut [u16; WORDS], sets: u32, entries: *const AgcPhaseEntry, entry_count: usize, phase_words: &[u16; PHASE_WORDS]) -> AgcNumber;
         /// As `agc_power_up`, of an array that an earlier call left so.
         ///
@@ -868,12 +759,12 @@ pub mod raw {
         ///
         /// The array is as an earlier call with this number of core sets left it: agc.h has more.
         pub fn agc_power_up_trusted(words: &mut [u16; WORDS], sets: u32, entries: *const AgcPhaseEntry, entry_count: usize, phase_words: &[u16; PHASE_WORDS]) -> AgcNumber;
-        pub fn agc_read_request(text: *const u8, length: usize, request: &mut AgcRequest) -> u32;
-        pub fn agc_read_action(text: *const u8, length: usize, action: &mut AgcRequest) -> u32;
+        pub fn agc_read_request(text: *const u8, length: usize, request: &mut AgcRequest) -> Code;
+        pub fn agc_read_action(text: *const u8, length: usize, action: &mut AgcRequest) -> Code;
         pub fn agc_write_reply(step: &AgcStep, fired: &[AgcFired; FIRED], text: *mut u8, room: usize) -> AgcNumber;
         pub fn agc_write_rule(rule: u32, text: *mut u8, room: usize) -> AgcNumber;
         pub fn agc_write_report(words: &[u16; WORDS], sets: u32, totals: &AgcTotals, text: *mut u8, room: usize) -> AgcNumber;
-        pub fn agc_pulse(line: u32, key: *const AgcRequest, key_count: usize, radar: *const AgcRequest, radar_count: usize, requests: &mut [AgcRequest; ACTIONS]) -> AgcNumber;
+        pub fn agc_pulse(line: Device, key: *const AgcRequest, key_count: usize, radar: *const AgcRequest, radar_count: usize, requests: &mut [AgcRequest; ACTIONS]) -> AgcNumber;
     }
 }
 
@@ -881,7 +772,7 @@ pub mod raw {
 unsafe extern "C" {
     /// Whether rows and entries make a plan: OK, and then no era of it begins with an alarm; or
     /// the first of PLAN_RANGE, TASK_TWICE, PHASE_TWICE and TOO_MANY_AREAS.
-    pub safe fn agc_plan_check(plan: &AgcPlan) -> u32;
+    pub safe fn agc_plan_check(plan: &AgcPlan) -> Code;
     /// One request, with all that follows from it: in a tick each task that is due fires, and the
     /// actions of its row are done; after an alarm, and at a restart or fresh start, an era
     /// begins by the plan's entries. `fired` gets the tasks that fired, in order, in its first
@@ -901,10 +792,10 @@ unsafe extern "C" {
     /// Whether a request is served, with these counts before it, by the rule of `agc`: OK;
     /// OUT_OF_RANGE and NOT_A_WORD for the request; SPENT; LOG_FULL, which neither RESTART nor
     /// FRESH is answered. agc_step asks nobody: it serves what is lawful.
-    pub safe fn agc_refusal(request: &AgcRequest, bounds: &AgcBounds) -> u32;
+    pub safe fn agc_refusal(request: &AgcRequest, bounds: &AgcBounds) -> Code;
     /// Whether rows make a timetable: OK, or the first of TIME_RANGE, STEAL_TWICE and COST_TWICE.
     /// The first row that is wrong is found by looking at fewer: docs/embedding/C.md.
-    pub safe fn agc_clock_check(table: &AgcTimetable) -> u32;
+    pub safe fn agc_clock_check(table: &AgcTimetable) -> Code;
     /// The next request of a clock for a machine with these words. docs/TIME.md says how time
     /// passes. The number tells who asks: 1 the clock, 2 and more an event, the first being 2;
     /// and then *request is to be asked, and agc_clock_served to be told of it. It is 0 where the
@@ -922,13 +813,13 @@ unsafe extern "C" {
     pub fn agc_clock_next_trusted(words: &[u16; WORDS], sets: u32, table: &AgcTimetable, clock: &mut AgcClock, request: &mut AgcRequest) -> AgcNumber;
     /// A clock takes what came of a request, also of one that it didn't ask for: the words as the
     /// step left them, and what agc_step answered. Codes of the image.
-    pub safe fn agc_clock_served(words: &[u16; WORDS], sets: u32, step: &AgcStep, clock: &mut AgcClock) -> u32;
+    pub safe fn agc_clock_served(words: &[u16; WORDS], sets: u32, step: &AgcStep, clock: &mut AgcClock) -> Code;
     /// As `agc_clock_served`, of an array that an earlier call left so.
     ///
     /// # Safety
     ///
     /// The array is as an earlier call with this number of core sets left it: agc.h has more.
-    pub fn agc_clock_served_trusted(words: &[u16; WORDS], sets: u32, step: &AgcStep, clock: &mut AgcClock) -> u32;
+    pub fn agc_clock_served_trusted(words: &[u16; WORDS], sets: u32, step: &AgcStep, clock: &mut AgcClock) -> Code;
     /// An event takes what came of a request, also of one that no clock asked for: where the step
     /// has an alarm, and the event's `after` is its code, it counts from the clock's centisecond
     /// on: its times are then those since the start, and `after` is 0, so that only the first
@@ -938,7 +829,7 @@ unsafe extern "C" {
     pub safe fn agc_clock_told(step: &AgcStep, clock: &AgcClock, event: &mut AgcEvent) -> u32;
     /// The image of a fresh start, whatever stood there: no jobs, no tasks, six phases 0, no
     /// codes.
-    pub safe fn agc_clear(words: &mut [u16; WORDS], sets: u32) -> u32;
+    pub safe fn agc_clear(words: &mut [u16; WORDS], sets: u32) -> Code;
     /// Whether the array has a lawful image: OK, or the first of NO_SUCH_SETS, NOT_WORDS and
     /// UNLAWFUL. True between requests, false inside a tick, where a task is due.
     pub safe fn agc_check(words: &[u16; WORDS], sets: u32) -> AgcTruth;
@@ -959,15 +850,15 @@ unsafe extern "C" {
     /// none.
     pub safe fn agc_failreg(words: &[u16; WORDS], sets: u32, place: u32) -> AgcNumber;
     /// All of these at once. Answers the code; *scene stays if it isn't OK.
-    pub safe fn agc_scene(words: &[u16; WORDS], sets: u32, scene: &mut AgcScene) -> u32;
+    pub safe fn agc_scene(words: &[u16; WORDS], sets: u32, scene: &mut AgcScene) -> Code;
     /// The library's release: 10000 times its first number, 100 times its second, and its third.
     pub safe fn agc_version() -> u32;
     /// A software restart, without what the phases begin again: no jobs, no tasks; phases and
     /// codes stay.
-    pub safe fn agc_restart(words: &mut [u16; WORDS], sets: u32) -> u32;
+    pub safe fn agc_restart(words: &mut [u16; WORDS], sets: u32) -> Code;
     /// An image of seven core sets becomes one of eight. NOT_NOW where a task is due. The words
     /// don't tell whether they are of eight already: then the job in core set 7 is lost.
-    pub safe fn agc_migrate(words: &mut [u16; WORDS]) -> u32;
+    pub safe fn agc_migrate(words: &mut [u16; WORDS]) -> Code;
     /// NOVAC, FINDVAC: a job of this priority, 1 to 31, at this address, 1 to 16383, in this
     /// bank, a word. ESTABLISHED, or ALARMED with ALARM_1202, FINDVAC also with ALARM_1201.
     pub safe fn agc_novac(words: &mut [u16; WORDS], sets: u32, priority: u32, at: u32, bank: u32) -> AgcReply;
@@ -998,9 +889,9 @@ unsafe extern "C" {
     /// Takes out a task that is due: of these the earliest arrival. NOT_NOW where none is due.
     pub safe fn agc_dispatch(words: &mut [u16; WORDS], sets: u32) -> AgcTask;
     /// The phase, 0 to 127, of a restart group, 1 to 6.
-    pub safe fn agc_set_phase(words: &mut [u16; WORDS], sets: u32, group: u32, phase: u32) -> u32;
+    pub safe fn agc_set_phase(words: &mut [u16; WORDS], sets: u32, group: u32, phase: u32) -> Code;
     /// Adds one of the four alarms to FAILREG.
-    pub safe fn agc_record_alarm(words: &mut [u16; WORDS], sets: u32, alarm: u32) -> u32;
+    pub safe fn agc_record_alarm(words: &mut [u16; WORDS], sets: u32, alarm: u32) -> Code;
     /// The phases that twelve phase words tell, as found when power comes back, -PHASE1 first.
     /// NOT_WORDS, or UNLAWFUL where a pair's words aren't complements of each other, or a phase
     /// is above 127.

@@ -47,8 +47,7 @@ impl Scenario {
             "job" => {
                 let all = self.timetable.take().unwrap();
                 let cost = numbers(&first[6..]);
-                let (then, lines) = parts.split_last().unwrap();
-                let all = all.job_asks(octal(&first[..5]), cost[1], lines, then)?;
+                                let all = all.job(octal(&first[..5]), cost[1], &parts)?;
                 self.timetable = Some(all.at_least(cost[0])?);
             }
             "event" => {
@@ -70,7 +69,7 @@ impl Scenario {
         }
         let (machine, clock) = self.going.as_mut().unwrap();
         let mut tell = |time: u32, source: u32, it: &AgcRequest, step: &Step| {
-            let (kind, third) = (it.kind, it.third);
+            let (kind, third) = (it.kind as u32, it.third);
             writeln!(out, "{time} {source} {kind} {} {} {third} {step}", it.first, it.second).unwrap();
         };
         if name == "hand" {
@@ -101,38 +100,37 @@ fn spells() -> Result<(), AgcError> {
         assert_eq!(AgcRequest::try_from(line)?.to_string(), line);
     }
     assert_eq!(AgcRequest::default().to_string(), "nothing");
-    assert_eq!(AgcRequest { kind: 14, ..AgcRequest::default() }.to_string(), "kind 14");
     Ok(())
 }
 
 /// A job costs two centiseconds, and of each 40 percent are stolen: it has 60, 120, 180 and 200 hundredths.
 fn keeps() -> Result<(), AgcError> {
-    let timetable = Timetable::new(1).steal(0, 100, 40)?.job(0o4000, 2, "end")?;
+    let timetable = Timetable::new(1).steal(0, 100, 40)?.job(0o4000, 2, &["end"])?;
     let (mut machine, mut clock) = (Machine::new(7, Plan::new())?, Clock::new(timetable)?);
     let step = machine.ask("novac 20 04000 00005")?;
     clock.served(&machine, &step);
     assert_eq!((machine.run(&mut clock, 3)?.len(), clock.given()), (3, [180, 0, 0, 0, 0, 0, 0, 0]));
     // The fourth has its end; and how long is asked for may be any number.
-    let asked: Vec<u32> = machine.run(&mut clock, u32::MAX)?.iter().map(|it| it.0.request.kind).collect();
-    assert_eq!((asked.len(), &asked[..2], clock.time(), clock.given()), (98, &[TICK, END][..], 100, [0; 8]));
+    let asked: Vec<RequestKind> = machine.run(&mut clock, u32::MAX)?.iter().map(|it| it.0.request.kind).collect();
+    assert_eq!((asked.len(), &asked[..2], clock.time(), clock.given()), (98, &[RequestKind::Tick, RequestKind::End][..], 100, [0; 8]));
     // The second and fourth centisecond are stolen: the third has its end.
-    let beat = Timetable::new(1).steal_every(2, 3, 100, Some(2), Some(100))?.job(0o4000, 2, "end")?;
+    let beat = Timetable::new(1).steal_every(2, 3, 100, Some(2), Some(100))?.job(0o4000, 2, &["end"])?;
     let (mut machine, mut clock) = (Machine::new(7, Plan::new())?, Clock::new(beat)?);
     let step = machine.ask("novac 20 04000 00005")?;
     clock.served(&machine, &step);
     assert_eq!((machine.run(&mut clock, 2)?.len(), machine.run(&mut clock, 1)?.len(), clock.time()), (2, 2, 3));
     // Each step but the first takes a hundredth more: with the 200th, 201st and 202nd.
-    let steps = Timetable::new(1).job_asks(0o4000, 2, &["phase 1 1", "prio 07"], "end")?;
+    let steps = Timetable::new(1).job(0o4000, 2, &["phase 1 1", "prio 07", "end"])?;
     let (mut machine, mut clock) = (Machine::new(7, Plan::new())?, Clock::new(steps)?);
     let step = machine.ask("novac 20 04000 00005")?;
     clock.served(&machine, &step);
     let asked: Vec<String> = machine.run(&mut clock, 3)?.iter().map(|it| it.0.request.to_string()).collect();
     assert_eq!(asked, ["tick", "tick", "phase 1 1", "tick", "prio 07", "end"]);
     // A cost by lot has to have a seed, below the last number; the first lot of seed 1 is 48271.
-    let lots = Timetable::new(1).job(0o4000, 3, "end")?.at_least(1)?;
-    for (seed, code) in [(0, TIME_RANGE), (2_147_483_647, TIME_RANGE), (2_147_483_646, OK), (1, OK)] {
+    let lots = Timetable::new(1).job(0o4000, 3, &["end"])?.at_least(1)?;
+    for (seed, code) in [(0, Code::TimeRange), (2_147_483_647, Code::TimeRange), (2_147_483_646, Code::Ok), (1, Code::Ok)] {
         let found = lots.clone().seed(seed).and_then(Clock::new);
-        assert_eq!(found.map_or_else(|error| error.code as u32, |_| OK), code);
+        assert_eq!(found.map_or_else(|error| error.code, |_| Code::Ok), code);
     }
     let (mut machine, mut clock) = (Machine::new(7, Plan::new())?, Clock::new(lots.seed(1)?)?);
     let step = machine.ask("novac 20 04000 00005")?;
@@ -155,7 +153,7 @@ fn keeps() -> Result<(), AgcError> {
     let (wanted, found) = (machine.clone().run(&mut clock, 9)?, machine.run(&mut own, 9)?);
     assert!(wanted == found && wanted.iter().any(|it| it.0.event == Some(1)));
     // A run tells its clock of the restart, after which nothing was given to a job that is gone.
-    let timetable = Timetable::new(1).job(0o4000, 5, "end")?;
+    let timetable = Timetable::new(1).job(0o4000, 5, &["end"])?;
     let timetable = timetable.event(1, None, Some(100), &["novac 20 04000 00005"])?.event(2, None, None, &["restart"])?;
     let (mut machine, mut clock) = (Machine::new(7, Plan::new())?, Clock::new(timetable)?);
     assert_eq!((machine.run(&mut clock, 1)?.len(), clock.given()[0]), (2, 100));
@@ -167,16 +165,15 @@ fn keeps() -> Result<(), AgcError> {
 fn asks() -> Result<(), AgcError> {
     let [tick, novac] = ["tick", "novac 20 02000 00005"].map(|it| AgcRequest::try_from(it).unwrap());
     let of = |served, logged| AgcBounds { served, allowance: 10, logged, limit: 5 };
-    assert_eq!([of(9, 4), of(9, 5), of(10, 5), of(11, 0)].map(|it| agc_refusal(&tick, &it)), [OK, LOG_FULL, SPENT, SPENT]);
-    assert_eq!(["restart", "fresh"].map(|it| agc_refusal(&it.try_into().unwrap(), &of(9, 5))), [OK, OK]);
-    assert_eq!(agc_refusal(&AgcRequest::default(), &of(9, 5)), OUT_OF_RANGE);
+    assert_eq!([of(9, 4), of(9, 5), of(10, 5), of(11, 0)].map(|it| agc_refusal(&tick, &it)), [Code::Ok, Code::LogFull, Code::Spent, Code::Spent]);
+    assert_eq!(["restart", "fresh"].map(|it| agc_refusal(&it.try_into().unwrap(), &of(9, 5))), [Code::Ok, Code::Ok]);
+    assert_eq!(agc_refusal(&AgcRequest::default(), &of(9, 5)), Code::OutOfRange);
     let none = AgcAction::default();
     let (key, mut found) = ([none, novac, none, novac], [tick; ACTIONS]);
-    assert_eq!((agc_pulse(KEY, &key, &[], &mut found), found), (AgcNumber { code: OK, number: 2 }, [novac, novac, tick, tick]));
-    assert_eq!((agc_pulse(TIMER, &key, &key, &mut found).number, found[0]), (1, tick));
-    assert_eq!(agc_pulse(RADAR, &key, &[], &mut found), AgcNumber { code: OK, number: 0 });
-    assert_eq!(agc_pulse(RADAR, &[], &[novac; 5], &mut found), AgcNumber { code: PLAN_RANGE, number: 0 });
-    assert_eq!(agc_pulse(3, &key, &key, &mut found), AgcNumber { code: OUT_OF_RANGE, number: 0 });
+    assert_eq!((agc_pulse(Device::Key, &key, &[], &mut found), found), (AgcNumber { code: Code::Ok, number: 2 }, [novac, novac, tick, tick]));
+    assert_eq!((agc_pulse(Device::Timer, &key, &key, &mut found).number, found[0]), (1, tick));
+    assert_eq!(agc_pulse(Device::Radar, &key, &[], &mut found), AgcNumber { code: Code::Ok, number: 0 });
+    assert_eq!(agc_pulse(Device::Radar, &[], &[novac; 5], &mut found), AgcNumber { code: Code::PlanRange, number: 0 });
     let lines = |found: Vec<AgcRequest>| found.iter().map(AgcRequest::to_string).collect::<Vec<_>>();
     assert_eq!(lines(pulse_of(Device::Key, &["nothing", "rouse 02100"], &[])?), ["rouse 02100"]);
     assert_eq!(lines(pulse_of(Device::Timer, &[], &[])?), ["tick"]);
@@ -208,14 +205,14 @@ fn asks() -> Result<(), AgcError> {
 /// A wrong number, line or count is named with its row, and what may stand there; and a call that is about a row before it
 /// wants one.
 fn messages() -> Result<(), AgcError> {
-    let (none, job) = (|| Timetable::new(1), Timetable::new(1).job(0o4000, 3, "end")?);
+    let (none, job) = (|| Timetable::new(1), Timetable::new(1).job(0o4000, 3, &["end"])?);
     let event = Timetable::new(1).event(1, None, None, &["tick"])?;
     for (made, told) in [
-        (none().job_asks(0o4000, 1, &["prio 07"; 8], "end"), "job 1: then must have 1 to 8 lines, but has 9"),
+        (none().job(0o4000, 1, &["prio 07"; 9]), "job 1: then must have 1 to 8 lines, but has 9"),
         // 2^32 hundredths and four aren't cut to four.
-        (none().job(0o4000, 42_949_673, "end"), "job 1: cost is 42949673, but must be 1 to 1000000"),
-        (job.clone().job(0, 1, "end"), "job 2: at is 0 (octal), but must be 1 to 37777"),
-        (none().job(1, 1, "tick"), r#"job 1: then 1: "tick": a job leaves by end or sleep"#),
+        (none().job(0o4000, 42_949_673, &["end"]), "job 1: cost is 42949673, but must be 1 to 1000000"),
+        (job.clone().job(0, 1, &["end"]), "job 2: at is 0 (octal), but must be 1 to 37777"),
+        (none().job(1, 1, &["tick"]), r#"job 1: then 1: "tick": a job leaves by end or sleep"#),
         (none().seed(0), "a timetable: seed is 0, but must be 1 to 2147483646"),
         (none().seed(u32::MAX), "a timetable: seed is 4294967295, but must be 1 to 2147483646"),
         (none().at_least(1), "at_least is about the job before it, and there is none"),
@@ -240,27 +237,27 @@ fn messages() -> Result<(), AgcError> {
     assert_eq!(told(Timetable::new(86401)), "a timetable: seconds is 86401, but must be 0 to 86400");
     let twice = none().steal(9, 12, 1)?.steal(0, 10, 1)?;
     assert_eq!(told(twice), "steal 2: it overlaps row 1");
-    let twice = (1..=3).chain([2]).try_fold(none(), |made, at| made.job(at, 1, "end"))?;
+    let twice = (1..=3).chain([2]).try_fold(none(), |made, at| made.job(at, 1, &["end"]))?;
     assert_eq!(told(twice), "job 4: 00002 already has row 2");
     let many = (0..1000).try_fold(none(), |made, _| made.event(1, None, None, &["tick"]))?;
     let error = many.event(1, None, None, &["tick"]).unwrap_err();
-    assert_eq!((error.to_string().as_str(), error.key.as_deref()), ("a timetable: event must have at most 1000 tables", Some("event")));
+    assert_eq!((error.to_string().as_str(), error.key.as_deref()), ("a timetable: event must have at most 1000 tables, but has 1001", Some("event")));
     let error = none().event(8_640_001, None, None, &["tick"]).unwrap_err();
     assert_eq!((error.row.as_deref(), error.key.as_deref()), (Some("event 1"), Some("at")));
     let state = |alarms| ClockState { clock: AgcClock::default(), alarms };
     for (alarm, told) in [((5, 1), "alarms: code is 5 (octal), but must be 1201 to 1203"), ((0o1202, 8_640_001), "alarms: 1202 is 8640001, but must be 0 to 8640000")] {
         assert_eq!(Clock::of_state(&state(vec![alarm]), none()).unwrap_err().to_string(), told);
     }
-    let clock = Clock::new(Timetable::new(2).job(1, 1, "end")?)?;
+    let clock = Clock::new(Timetable::new(2).job(1, 1, &["end"])?)?;
     assert_eq!(format!("{clock:?}"), "<Clock: 0 of 200 centiseconds; jobs: 1, events: 0>");
     Ok(())
 }
 
 fn main() -> Result<(), AgcError> {
-    let twice = Timetable::new(1).job(0o4000, 1, "end")?.job(0o4000, 2, "end")?;
+    let twice = Timetable::new(1).job(0o4000, 1, &["end"])?.job(0o4000, 2, &["end"])?;
     assert_eq!(Clock::new(twice).unwrap_err().code, Code::CostTwice);
-    assert_eq!(Timetable::new(1).job(0o4000, 1, "tick").unwrap_err().code, Code::NotSpelled);
-    assert_eq!(Timetable::new(1).job_asks(0o4000, 1, &["change"], "end").unwrap_err().code, Code::NotSpelled);
+    assert_eq!(Timetable::new(1).job(0o4000, 1, &["tick"]).unwrap_err().code, Code::NotSpelled);
+    assert_eq!(Timetable::new(1).job(0o4000, 1, &["change", "end"]).unwrap_err().code, Code::NotSpelled);
     messages()?;
     assert_eq!(Clock::new(Timetable::new(86401)).unwrap_err().code, Code::TimeRange);
     assert_eq!((Clock::new(Timetable::new(86400))?.lasts(), Clock::new(Timetable::new(60))?.lasts()), (8_640_000, 6000));

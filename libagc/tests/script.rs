@@ -25,8 +25,8 @@ fn number(text: &str, radix: u32) -> u32 {
     u32::from_str_radix(text, radix).unwrap()
 }
 
-fn want(code: u32) {
-    assert_eq!(code, OK);
+fn want(code: Code) {
+    assert_eq!(code, Code::Ok);
 }
 
 impl Run {
@@ -49,20 +49,20 @@ impl Run {
         want(r.code);
         let n = r.number;
         let text = match r.reply {
-            ESTABLISHED => format!("job {n}"),
-            LEFT => format!("left {n}"),
-            IDLE => "left idle".to_string(),
-            ROUSED => format!("roused {n}"),
-            NO_SLEEPER => "no sleeper".to_string(),
-            NO_JOB => "no job".to_string(),
-            RUNS => format!("runs {n}"),
-            STORED => "stored".to_string(),
-            LISTED => "listed".to_string(),
-            ALARMED => {
+            Kind::Established => format!("job {n}"),
+            Kind::Left => format!("left {n}"),
+            Kind::Idle => "left idle".to_string(),
+            Kind::Roused => format!("roused {n}"),
+            Kind::NoSleeper => "no sleeper".to_string(),
+            Kind::NoJob => "no job".to_string(),
+            Kind::Runs => format!("runs {n}"),
+            Kind::Stored => "stored".to_string(),
+            Kind::Listed => "listed".to_string(),
+            Kind::Alarmed => {
                 self.begin(n);
                 format!("alarm {n:o}")
             }
-            kind => panic!("kind {kind}"),
+            kind => panic!("{kind:?}"),
         };
         self.out.push_str(&text);
     }
@@ -78,7 +78,7 @@ impl Run {
             let lines: Vec<String> = self.rows.iter().filter(is_of).map(|row| row.2.clone()).collect();
             for reply in lines.iter().map_while(|it| self.ask(it)) {
                 want(reply.code);
-                if reply.reply == ALARMED {
+                if reply.reply == Kind::Alarmed {
                     write!(self.out, " alarm {:o}", reply.number).unwrap();
                     return self.begin(reply.number);
                 }
@@ -121,7 +121,8 @@ impl Run {
     fn entry(&mut self, texts: &[&str]) {
         let ten = |k: usize| number(texts[k], 10);
         let eight = |k: usize| number(texts[k], 8);
-        let (job, priority, job_at, job_bank) = (ten(2), eight(3), eight(4), eight(5));
+        let job = [RequestKind::Nothing, RequestKind::Novac, RequestKind::Findvac][ten(2) as usize];
+        let (priority, job_at, job_bank) = (eight(3), eight(4), eight(5));
         let (delay, task_at, task_bank) = (ten(6), eight(7), eight(8));
         self.entries.push(AgcPhaseEntry { group: ten(0), phase: ten(1), job, priority, job_at, job_bank, delay, task_at, task_bank });
     }
@@ -133,7 +134,7 @@ impl Run {
         for (group, phase) in (1..).zip(then.phases) {
             want(agc_set_phase(&mut self.words, self.sets, group, phase.into()));
         }
-        let alarm = if then.code == OK { 0 } else { 0o1107 };
+        let alarm = if then.code == Code::Ok { 0 } else { 0o1107 };
         want(agc_begin(&mut self.words, self.sets, alarm, &self.entries));
     }
 
@@ -185,34 +186,34 @@ impl Run {
 /// What a module of safe functions must hold: any numbers are taken, and refused.
 fn refuses() {
     let mut words: Words = [65535; WORDS];
-    assert_eq!(agc_check(&words, 7).code, NOT_WORDS);
-    assert_eq!(agc_clear(&mut words, 9), NO_SUCH_SETS);
+    assert_eq!(agc_check(&words, 7).code, Code::NotWords);
+    assert_eq!(agc_clear(&mut words, 9), Code::NoSuchSets);
     assert_eq!(words, [65535; WORDS]);
     words = [0; WORDS];
-    assert_eq!(agc_novac(&mut words, 8, 1, 1, 1), AgcReply { code: UNLAWFUL, reply: 0, number: 0 });
+    assert_eq!(agc_novac(&mut words, 8, 1, 1, 1), AgcReply { code: Code::Unlawful, ..AgcReply::default() });
     want(agc_clear(&mut words, 7));
     assert_eq!(words[132..], [0; 12]);
-    assert_eq!(agc_novac(&mut words, 7, 0, 1, 1).code, OUT_OF_RANGE);
-    assert_eq!(agc_novac(&mut words, 7, 1, 1, 32768).code, NOT_A_WORD);
-    assert_eq!(agc_dispatch(&mut words, 7), AgcTask { code: NOT_NOW, at: 0, bank: 0 });
+    assert_eq!(agc_novac(&mut words, 7, 0, 1, 1).code, Code::OutOfRange);
+    assert_eq!(agc_novac(&mut words, 7, 1, 1, 32768).code, Code::NotAWord);
+    assert_eq!(agc_dispatch(&mut words, 7), AgcTask { code: Code::NotNow, at: 0, bank: 0 });
     assert_eq!(agc_novac(&mut words, 7, 1, 1, 1).number, 1);
     want(agc_migrate(&mut words));
-    assert_eq!(agc_running(&words, 8), AgcNumber { code: OK, number: 1 });
-    assert_eq!(agc_value(0o77776), AgcValue { code: OK, value: -1 });
-    assert_eq!(agc_add(0o37777, 1), AgcSum { code: OK, bits: 0, overflow: true });
-    assert_eq!(agc_recover(&[0; 12]).code, UNLAWFUL);
-    assert_eq!(Code::of(NOT_A_WORD).map(Code::text), Some("a word of the call is above 077777"));
-    assert_eq!((Kind::of(STORED).map(Kind::text), Kind::of(0)), (Some("a work word was set"), None));
+    assert_eq!(agc_running(&words, 8), AgcNumber { code: Code::Ok, number: 1 });
+    assert_eq!(agc_value(0o77776), AgcValue { code: Code::Ok, value: -1 });
+    assert_eq!(agc_add(0o37777, 1), AgcSum { code: Code::Ok, bits: 0, overflow: true });
+    assert_eq!(agc_recover(&[0; 12]).code, Code::Unlawful);
+    assert_eq!(Code::NotAWord.text(), "a word of the call is above 077777");
+    assert_eq!(Kind::Stored.text(), "a work word was set");
     let of = |group, job, job_bank| AgcPhaseEntry { group, phase: 1, job, priority: 1, job_at: 1, job_bank, ..AgcPhaseEntry::default() };
     want(agc_set_phase(&mut words, 8, 6, 1));
     let was = words;
-    assert_eq!(agc_begin(&mut words, 9, 0, &[]), NO_SUCH_SETS);
-    assert_eq!(agc_begin(&mut words, 8, 1201, &[]), OUT_OF_RANGE);
-    assert_eq!(agc_begin(&mut words, 8, 0o1201, &[of(6, NOVAC, 32768)]), PLAN_RANGE);
-    let six: Vec<AgcPhaseEntry> = (1..=6).map(|group| of(group, FINDVAC, 1)).collect();
+    assert_eq!(agc_begin(&mut words, 9, 0, &[]), Code::NoSuchSets);
+    assert_eq!(agc_begin(&mut words, 8, 1201, &[]), Code::OutOfRange);
+    assert_eq!(agc_begin(&mut words, 8, 0o1201, &[of(6, RequestKind::Novac, 32768)]), Code::PlanRange);
+    let six: Vec<AgcPhaseEntry> = (1..=6).map(|group| of(group, RequestKind::Findvac, 1)).collect();
     assert_eq!(words, was);
     (1..=5).for_each(|group| want(agc_set_phase(&mut words, 8, group, 1)));
-    assert_eq!(agc_begin(&mut words, 8, 0, &six), TOO_MANY_AREAS);
+    assert_eq!(agc_begin(&mut words, 8, 0, &six), Code::TooManyAreas);
     want(agc_begin(&mut words, 8, 0, &six[1..]));
     assert_eq!((agc_running(&words, 8).number, words[84]), (1, 0));
 }

@@ -25,9 +25,10 @@ fn number(text: &str, radix: u32) -> u32 {
 
 /// A reply's line by its numbers alone.
 fn spelled(step: &Step) -> String {
-    let n = step.number();
-    let fired: String = step.fired().iter().map(|it| format!(" {:05o}/{:05o}", it.at, it.bank)).collect();
-    match step.kind() {
+    let n = step.number;
+    let fired: String = step.fired.iter().map(|it| format!(" {:05o}/{:05o}", it.at, it.bank)).collect();
+    match step.kind {
+        Kind::Nothing => panic!("no reply"),
         Kind::Established => format!("job {n}"),
         Kind::Left => format!("left {n}"),
         Kind::Idle => "left idle".to_string(),
@@ -97,7 +98,7 @@ impl Run {
         assert_eq!(other.ask(request).unwrap(), step);
         assert_eq!((other.words(), other.moment()), (machine.words(), machine.moment()));
         assert_eq!((other.totals(), step.to_string()), (machine.totals(), spelled(&step)));
-        assert_eq!(step.action() > 0, step.kind() == Kind::TickAlarmed);
+        assert_eq!(step.action > 0, step.kind == Kind::TickAlarmed);
         step.to_string()
     }
 
@@ -135,9 +136,9 @@ impl Run {
     }
 }
 
-fn lacks<T>(made: Result<T, AgcError>, code: u32) {
+fn lacks<T>(made: Result<T, AgcError>, code: Code) {
     let error = made.err().unwrap();
-    assert!(error.code as u32 == code && error.to_string().len() > 8, "{error:?}, and not {code}");
+    assert!(error.code == code && error.to_string().len() > 8, "{error:?}, and not {code:?}");
 }
 
 /// Each code, as an error; and then nothing has changed.
@@ -149,49 +150,48 @@ fn refuses() {
     let mut untidy = words.clone();
     untidy[7] = 1;
     let request = |kind, first, second, third| AgcRequest { kind, first, second, third };
-    lacks(Machine::new(9, Plan::new()), NO_SUCH_SETS);
-    lacks(Machine::from_words(&[0; 131], Plan::new()), NOT_WORDS);
-    lacks(Machine::from_words(&[32768; 132], Plan::new()), NOT_WORDS);
-    lacks(Machine::power_up(7, Plan::new(), &[32768; 12]), NOT_WORDS);
-    lacks(Machine::from_words(&[0; 132], Plan::new()), UNLAWFUL);
-    lacks(Machine::from_words(&untidy, Plan::new()), UNTIDY);
-    lacks(Machine::from_words(&[], Plan::new()), NOT_WORDS);
-    lacks(Machine::from_words(&words[..143], Plan::new()), NOT_WORDS);
-    lacks(machine.ask(request(NOVAC, 32, 1, 1)), OUT_OF_RANGE);
-    lacks(machine.ask(request(NOTHING, 0, 0, 0)), OUT_OF_RANGE);
-    lacks(machine.ask(request(14, 0, 0, 0)), OUT_OF_RANGE);
-    lacks(machine.ask(request(FINDVAC, 1, 1, 32768)), NOT_A_WORD);
+    lacks(Machine::new(9, Plan::new()), Code::NoSuchSets);
+    lacks(Machine::from_words(&[0; 131], Plan::new()), Code::NotWords);
+    lacks(Machine::from_words(&[32768; 132], Plan::new()), Code::NotWords);
+    lacks(Machine::power_up(7, Plan::new(), &[32768; 12]), Code::NotWords);
+    lacks(Machine::from_words(&[0; 132], Plan::new()), Code::Unlawful);
+    lacks(Machine::from_words(&untidy, Plan::new()), Code::Untidy);
+    lacks(Machine::from_words(&[], Plan::new()), Code::NotWords);
+    lacks(Machine::from_words(&words[..143], Plan::new()), Code::NotWords);
+    lacks(machine.ask(request(RequestKind::Novac, 32, 1, 1)), Code::OutOfRange);
+    lacks(machine.ask(request(RequestKind::Nothing, 0, 0, 0)), Code::OutOfRange);
+    lacks(machine.ask(request(RequestKind::Findvac, 1, 1, 32768)), Code::NotAWord);
     for line in ["novac 20 2000 00005", "tick ", "", "tick\0", "nothing"] {
-        lacks(machine.ask(line), NOT_SPELLED);
+        lacks(machine.ask(line), Code::NotSpelled);
     }
-    lacks(Plan::new().task(1, 1, &["tick"]), NOT_SPELLED);
-    lacks(Plan::new().phase(1, 1, "rouse 02000", ""), NOT_SPELLED);
-    lacks(Plan::new().phase(1, 1, "", area), NOT_SPELLED);
-    lacks(Plan::new().phase(1, 1, "", "novac 01 00001 00000"), NOT_SPELLED);
-    lacks(Plan::new().task(1, 1, &["nothing"; 5]), PLAN_RANGE);
-    lacks(Plan::new().task(1, 1, &[]), PLAN_RANGE);
-    lacks(Plan::new().task(16384, 1, &["nothing"]), PLAN_RANGE);
-    lacks(Plan::new().phase(1, 128, area, ""), PLAN_RANGE);
+    lacks(Plan::new().task(1, 1, &["tick"]), Code::NotSpelled);
+    lacks(Plan::new().phase(1, 1, "rouse 02000", ""), Code::NotSpelled);
+    lacks(Plan::new().phase(1, 1, "", area), Code::NotSpelled);
+    lacks(Plan::new().phase(1, 1, "", "novac 01 00001 00000"), Code::NotSpelled);
+    lacks(Plan::new().task(1, 1, &["nothing"; 5]), Code::PlanRange);
+    lacks(Plan::new().task(1, 1, &[]), Code::PlanRange);
+    lacks(Plan::new().task(16384, 1, &["nothing"]), Code::PlanRange);
+    lacks(Plan::new().phase(1, 128, area, ""), Code::PlanRange);
     let twice = Plan::new().task(1, 1, &["nothing"]).unwrap().task(1, 1, &[area]).unwrap();
-    lacks(Machine::new(7, twice), TASK_TWICE);
+    lacks(Machine::new(7, twice), Code::TaskTwice);
     let twice = Plan::new().phase(1, 1, area, "").unwrap().phase(1, 1, "", "").unwrap();
-    lacks(Machine::new(7, twice), PHASE_TWICE);
+    lacks(Machine::new(7, twice), Code::PhaseTwice);
     let wants = (1..=6).fold(Plan::new(), |plan, group| plan.phase(group, 1, area, "").unwrap());
-    lacks(Machine::new(7, wants), TOO_MANY_AREAS);
+    lacks(Machine::new(7, wants), Code::TooManyAreas);
     assert_eq!((machine.words(), machine.totals()), (&words[..], totals));
     let mut again = Machine::from_words(&words, Plan::new()).unwrap();
     assert_eq!(again.words(), words);
     assert_eq!(again.ask("change").unwrap().to_string(), "runs 1");
     // A line that spells nothing is told. What is too long for its room isn't written.
     messages(&mut machine);
-    let step = AgcStep { code: OK, reply: ESTABLISHED, number: 3, fired: 0, action: 0 };
+    let step = AgcStep { code: Code::Ok, reply: Kind::Established, number: 3, fired: 0, action: 0 };
     let (fired, mut whole, mut text) = ([AgcFired::default(); FIRED], [0; WORDS], [7; LINE]);
-    assert_eq!(agc_write_reply(&step, &fired, &mut text[..5]), AgcNumber { code: NO_ROOM, number: 6 });
+    assert_eq!(agc_write_reply(&step, &fired, &mut text[..5]), AgcNumber { code: Code::NoRoom, number: 6 });
     whole.copy_from_slice(&words);
-    assert_eq!(agc_write_report(&whole, 8, &totals, &mut text[..5]).code, NO_ROOM);
-    assert_eq!(agc_begin(&mut whole, 8, 0, &[AgcPhaseEntry { group: 1, ..AgcPhaseEntry::default() }]), PLAN_RANGE);
+    assert_eq!(agc_write_report(&whole, 8, &totals, &mut text[..5]).code, Code::NoRoom);
+    assert_eq!(agc_begin(&mut whole, 8, 0, &[AgcPhaseEntry { group: 1, ..AgcPhaseEntry::default() }]), Code::PlanRange);
     assert_eq!(text, [7; LINE]);
-    assert_eq!(agc_write_reply(&step, &fired, &mut text[..6]), AgcNumber { code: OK, number: 6 });
+    assert_eq!(agc_write_reply(&step, &fired, &mut text[..6]), AgcNumber { code: Code::Ok, number: 6 });
     assert_eq!(text[..7], *b"job 3\n\x07");
 }
 
@@ -211,9 +211,9 @@ fn messages(machine: &mut Machine) {
     assert_eq!(said(&"x".repeat(61)), format!("\"{}..\": {}", "x".repeat(60), REQUEST_KINDS.otherwise));
     assert_eq!("prio 07".parse::<AgcRequest>().unwrap().to_string(), "prio 07");
     let mut said = |kind, first, second, third| machine.ask(AgcRequest { kind, first, second, third }).unwrap_err().to_string();
-    assert_eq!(said(NOVAC, 0o40, 0o2000, 5), "priority is 40 (octal), but must be 1 to 37");
-    assert_eq!(said(FINDVAC, 1, 1, 32768), "word is 100000 (octal), but must be 0 to 77777");
-    assert_eq!(said(LIST, 16251, 1, 1), "delay is 16251, but must be 1 to 16250");
+    assert_eq!(said(RequestKind::Novac, 0o40, 0o2000, 5), "priority is 40 (octal), but must be 1 to 37");
+    assert_eq!(said(RequestKind::Findvac, 1, 1, 32768), "word is 100000 (octal), but must be 0 to 77777");
+    assert_eq!(said(RequestKind::List, 16251, 1, 1), "delay is 16251, but must be 1 to 16250");
     let of = |made: Result<Plan, AgcError>| made.and_then(|it| Machine::new(7, it)).unwrap_err().to_string();
     let action = r#"task 1: action 2: "tick": an action is nothing, or begins with novac, findvac, rouse or list"#;
     assert_eq!(of(Plan::new().task(1, 1, &["nothing", "tick"])), action);
@@ -229,12 +229,8 @@ fn messages(machine: &mut Machine) {
     power[3] = 32768;
     let told = Machine::power_up(7, Plan::new(), &power).unwrap_err().to_string();
     assert_eq!(told, "a machine: power 4 is 100000 (octal), but must be 0 to 77777");
-    for kind in [0, 14] {
-        let request = AgcRequest { kind, ..AgcRequest::default() };
-        let told = format!("kind is {kind}, but must be 1 to 13");
-        assert_eq!(machine.ask(request).unwrap_err().to_string(), told);
-        assert_eq!(refusal_of(request, &AgcBounds::default()).unwrap_err().to_string(), told);
-    }
+    let told = "nothing is no request, but an action of a plan";
+    assert_eq!(machine.ask(AgcRequest::default()).unwrap_err().to_string(), told);
     untidy_words();
     let words = Machine::from_words(&[0; 131], Plan::new()).unwrap_err().to_string();
     assert_eq!(words, "words: there must be 132 or 144, but there are 131");
@@ -309,7 +305,7 @@ fn keeps() {
     }
     let step = nine.ask("tick").unwrap();
     assert_eq!(step.to_string(), format!("tick {} alarm 1201", ats.join(" ")));
-    assert_eq!((step.action(), step.begins_era(), nine.ask("tick").unwrap().begins_era()), (1, true, false));
+    assert_eq!((step.action, step.begins_era(), nine.ask("tick").unwrap().begins_era()), (1, true, false));
     assert!(nine.ask("restart").unwrap().begins_era());
     // Counts stay at their most.
     let most = AgcTotals { served: u64::MAX, alarms_1201: u64::MAX, restarts: u64::MAX, ..AgcTotals::default() };
