@@ -1,31 +1,21 @@
 /** tools/bindings had tsc write this from the comments of the modules. */
-/** What a code says, whatever it is.
- * @param {string} code */
+/** What a code says, whatever it is. */
 export function codeText(code: string): string;
-/** What a kind of reply says, whatever the number.
- * @param {number} kind */
+/** What a kind of reply says, whatever the number. */
 export function replyText(kind: number): string;
 /**
  * Takes the module agc.wasm, as bytes or compiled, unless one is there: `agc.js` has done it.
- * @param {BufferSource | WebAssembly.Module} source
- * @returns {Promise<void>}
  */
 export function start(source: BufferSource | WebAssembly.Module): Promise<void>;
 /**
  * Whether a request is served, with these counts before it: `Code.OK`, `Code.SPENT`, or
  * `Code.LOG_FULL`, which is the answer neither to a restart nor to a fresh start. A line that spells
  * no request is thrown.
- * @param {string | Asked} request
- * @param {Bounds} bounds
- * @returns {string}
  */
 export function refusalOf(request: string | Asked, bounds: Bounds): string;
 /**
  * The lines of what a pulse of a device asks for, where `line` is "timer", "key" or "radar": a tick,
  * or what a plan has done for a key or a radar pulse, which is at most four actions.
- * @param {string} line
- * @param {{ key?: string | string[], radar?: string | string[] }} [plan]
- * @returns {string[]}
  */
 export function pulseOf(line: string, plan?: {
     key?: string | string[] | undefined;
@@ -34,89 +24,16 @@ export function pulseOf(line: string, plan?: {
 /**
  * What a place of the words is called: "LOC of core set 2", "VAC 1", "NEWJOB", "LST1 0",
  * "PHASE of group 3".
- * @param {number} place
- * @returns {string}
  */
 export function placeName(place: number): string;
 /**
  * Why no machine begins with these words, 132 or 144; null where one does.
- * @param {ArrayLike<number>} words
- * @returns {Finding | null}
  */
 export function findingOf(words: ArrayLike<number>): Finding | null;
 /**
  * What words say that a machine has left, or had at a moment. Other words are refused.
- * @param {ArrayLike<number>} words
- * @returns {Scene}
  */
 export function sceneOf(words: ArrayLike<number>): Scene;
-/** What agc.wasm exports, for those who instantiate it themselves.
- * @typedef {import("./library.js").Library} Library */
-/** What is done when a task fires.
- * @typedef {import("./library.js").NamedTask} PlanTask */
-/** What begins again while a restart group is in a phase.
- * @typedef {import("./library.js").NamedPhase} PlanPhase */
-/** A plan, as a bench has it, or a whole bench or scenario.
- * @typedef {Partial<import("./library.js").Bench & import("./library.js").Scenario>} Plan */
-/** A task of the Waitlist.
- * @typedef {{ at: number, bank: number }} Task */
-/** A task that waits, and the centiseconds that are left to it.
- * @typedef {{ at: number, bank: number, left: number }} Waiting */
-/**
- * A job in a core set; `area` is the number of its VAC area, 1 to 5, or 0.
- * @typedef {{ number: number, priority: number, at: number, bank: number, asleep: boolean, area: number, work: number[] }} Job
- */
-/**
- * What words say: who runs and whom a change of job would bring (job numbers, 0 for nobody), the core sets with their
- * jobs, who owns each VAC area, the tasks that wait, the six phases, and the three codes.
- * @typedef {{ running: number, next: number, sets: (Job | null)[], areas: number[], tasks: Waiting[], phases: number[],
- *   codes: number[] }} Scene
- */
-/**
- * How many requests were served, how many alarms 1201, 1202 and 1203 came, how many eras began.
- * @typedef {{ served: number, alarms: number[], restarts: number }} Totals
- */
-/**
- * All of a machine, of which JSON can be made.
- * @typedef {{ sets: number, plan: Plan, words: number[], moment: number[], totals: Totals }} MachineState
- */
-/**
- * From one centisecond until just before another, something else takes so many percent of each. With `every` this
- * repeats at that interval, and last begins at `until` or earlier.
- * @typedef {import("./library.js").Steal} Stolen
- */
-/**
- * What a job at an address costs, in centiseconds, or by lot between two such; then `"end"` or `"sleep 04000"`, or several
- * requests, the last of which is one of these. A clock passes over `deadline`.
- * @typedef {Omit<import("./library.js").Job, "cost"> & { cost: number | import("./library.js").Cost }} JobCost
- */
-/**
- * What is asked at a centisecond, and with `every` again, at last at `until`. Where `after` is the name of an event above
- * it, these count from the first time of that one; where it is "1201", "1202" or "1203", and no event above has that name,
- * from the first alarm of that code.
- * @typedef {import("./library.js").Event} TimedEvent
- */
-/**
- * What a scenario has of time: how many seconds, at most a day, 86400 where it isn't named; the seed of lots, 1 to
- * 2147483646, where a cost is by lot; percent of each centisecond that something else takes, or rows of it.
- * @typedef {{ seconds?: number, seed?: number, steal?: number | readonly Stolen[], job?: readonly JobCost[],
- *   event?: readonly TimedEvent[] }} Timetable
- */
-/** When the first alarm of each code came, in centiseconds.
- * @typedef {{ 1201?: number, 1202?: number, 1203?: number }} FirstAlarms */
-/** All of a clock, of which JSON can be made.
- * @typedef {{ timetable: Timetable, at: number[], alarms?: FirstAlarms }} ClockState */
-/**
- * Why no machine begins with words: the code that a call lacks; the rule of lawful words that is broken first, 0 where they are
- * lawful and no request leaves them so; the word's place, from 0, what stands there, and what would have to: null where the
- * other words leave more than one choice.
- * @typedef {{ code: string, rule: number, place: number, found: number, wanted: number | null, text: string }} Finding
- */
-/**
- * How many requests were served, and how many are at most; how many were since the last era began, and how many are at
- * most.
- * @typedef {{ served: number | bigint, allowance: number | bigint, logged: number, limit: number }} Bounds
- */
 /** The release of this module. */
 export const VERSION: "1.0.0";
 /** How many numbers an array of words has, and how many phase words there are. */
@@ -124,44 +41,30 @@ export const WORDS: 144;
 export const PHASE_WORDS: 12;
 /** What was not served, or may not stand in a document. `code` says why, `message` the same as a sentence. */
 export class AgcError extends Error {
-    /** @param {string} code
-   * @param {string} [sentence]
-   * @param {string | null} [row]
-   * @param {string | null} [key] */
+    /** @param {string} code */
     constructor(code: string, sentence?: string | undefined, row?: string | null | undefined, key?: string | null | undefined);
-    /** The code's name, as "NOT_SPELLED".
- * @readonly */
+    /** The code's name, as "NOT_SPELLED". */
     readonly code: string;
-    /** Its number, as agc.h has it.
- * @readonly */
+    /** Its number, as agc.h has it. */
     readonly number: number;
-    /** Which table of a document, as "event 2"; or null.
- * @readonly */
+    /** Which table of a document, as "event 2"; or null. */
     readonly row: string | null;
-    /** Which key of a document, or null.
- * @readonly */
+    /** Which key of a document, or null. */
     readonly key: string | null;
 }
 /** The name that `AgcError` had. */
 export const Lacking: typeof AgcError;
 /** What a machine replies to a request. */
 export class Step {
-    /** @param {number} kind
-   * @param {number} number
-   * @param {Task[]} fired
-   * @param {number} action */
+    /** @param {number} kind */
     constructor(kind: number, number: number, fired: Task[], action: number);
-    /** The kind, of `Kind`.
- * @readonly */
+    /** The kind, of `Kind`. */
     readonly kind: number;
-    /** The job's number, or the alarm, as 0o1201; else 0.
- * @readonly */
+    /** The job's number, or the alarm, as 0o1201; else 0. */
     readonly number: number;
-    /** The tasks that fired, in order.
- * @readonly */
+    /** The tasks that fired, in order. */
     readonly fired: Task[];
-    /** Which action, 1 to 4, of the last of them raised the alarm; 0 where none did.
- * @readonly */
+    /** Which action, 1 to 4, of the last of them raised the alarm; 0 where none did. */
     readonly action: number;
     /** The alarm, 0o1201, 0o1202 or 0o1203, after which an era began; 0 where there was none. */
     get alarm(): number;
@@ -179,10 +82,8 @@ export class Step {
  * power came back. `words` are those of an earlier machine, with as many core sets as these have.
  */
 export class Machine {
-    /** A machine of what `state` told. Its words are looked at as those from elsewhere are.
-   * @param {MachineState} state */
+    /** A machine of what `state` told. Its words are looked at as those from elsewhere are. */
     static ofState(state: MachineState): Machine;
-    /** @param {{ sets?: number, plan?: Plan, power?: readonly (number | string)[], words?: ArrayLike<number> }} given */
     constructor(given?: {
         sets?: number | undefined;
         plan?: Partial<import("./library.js").Bench & import("./library.js").Scenario> | undefined;
@@ -193,19 +94,12 @@ export class Machine {
      * Asks one request: a line as `"findvac 30 02100 00005"`, or its name and numbers, as
      * `"findvac", 0o30, 0o2100, 5`, or what a clock gave. After an alarm, a restart or a fresh start an
      * era has begun.
-     * @param {string | Asked} request
-     * @param {...number} given
-     * @returns {Step}
      */
     ask(request: string | Asked, ...given: number[]): Step;
     /**
      * Lets time pass by a clock: asks all that it gives until so many centiseconds have passed, or its
      * time is over, and tells it what came of each. Returns how many requests that were. `row` is
      * called with each request, its reply and the centisecond; where it returns false, the run stops.
-     * @param {Clock} clock
-     * @param {number} centiseconds
-     * @param {(asked: Asked, step: Step, time: number) => unknown} [row]
-     * @returns {number}
      */
     run(clock: Clock, centiseconds: number, row?: ((asked: Asked, step: Step, time: number) => unknown) | undefined): number;
     /** Who runs, and how many jobs, tasks and alarms there are. */
@@ -216,14 +110,11 @@ export class Machine {
     get words(): Uint16Array;
     /** The words as they were when the last request was answered: at an alarm, before the restart. */
     get moment(): Uint16Array;
-    /** How many requests were served, alarms 1201, 1202 and 1203 came, and eras began.
-   * @returns {Totals} */
+    /** How many requests were served, alarms 1201, 1202 and 1203 came, and eras began. */
     get totals(): Totals;
-    /** What the words say, as `sceneOf` has it.
-   * @returns {Scene} */
+    /** What the words say, as `sceneOf` has it. */
     scene(): Scene;
-    /** All of it, of which JSON can be made, for `Machine.ofState`.
-   * @returns {MachineState} */
+    /** All of it, of which JSON can be made, for `Machine.ofState`. */
     get state(): MachineState;
     /** What JSON has of it. */
     toJSON(): MachineState;
@@ -235,16 +126,11 @@ export class Machine {
 }
 /** A request that a clock gave: its name, its numbers, and who asks for it. */
 export class Asked {
-    /** @param {string} name
-   * @param {number[]} given
-   * @param {number | null} event */
+    /** @param {string} name */
     constructor(name: string, given: number[], event: number | null);
-    /** @readonly */
     readonly name: string;
-    /** @readonly */
     readonly numbers: number[];
-    /** The number of the event that asks, from 0; null where the clock itself does.
- * @readonly */
+    /** The number of the event that asks, from 0; null where the clock itself does. */
     readonly event: number | null;
     /** Its line, as in a script. */
     get text(): string;
@@ -257,13 +143,10 @@ export class Asked {
  * `seed`, 1 to 2147483646. A clock goes with one machine, and is told of all that this is asked.
  */
 export class Clock {
-    /** A clock of what `state` told.
-   * @param {ClockState} state */
+    /** A clock of what `state` told. */
     static ofState(state: ClockState): Clock;
-    /** @param {Timetable} timetable */
     constructor(timetable?: Timetable);
-    /** All of it, of which JSON can be made, for `Clock.ofState`.
-   * @returns {ClockState} */
+    /** All of it, of which JSON can be made, for `Clock.ofState`. */
     get state(): ClockState;
     /** What JSON has of it. */
     toJSON(): ClockState;
@@ -272,13 +155,9 @@ export class Clock {
     /**
      * The next request for this machine, or null where the time is over. The clock has then gone on,
      * so that it is to be asked, and `served` to be told of it.
-     * @param {Machine} machine
-     * @returns {Asked | null}
      */
     next(machine: Machine): Asked | null;
-    /** Tells what came of a request, also of one that the clock didn't give.
-   * @param {Machine} machine
-   * @param {Step} step */
+    /** Tells what came of a request, also of one that the clock didn't give. */
     served(machine: Machine, step: Step): void;
     /** The centisecond that passes; 0 before the first tick. */
     get time(): number;
@@ -289,8 +168,7 @@ export class Clock {
     get given(): number[];
     /** How many centiseconds the timetable lasts. */
     get lasts(): number;
-    /** Another timetable from here on, of which what isn't named stays as it was.
-   * @param {Timetable} timetable */
+    /** Another timetable from here on, of which what isn't named stays as it was. */
     change(timetable: Timetable): void;
     /** A clock of its own with the same time, counts and timetable. */
     copy(): Clock;
@@ -440,13 +318,10 @@ export type Bounds = {
 };
 import { Code } from "./library.js";
 import { Kind } from "./library.js";
-/** @type {Record<keyof typeof SIZE, number>} */
 declare const at: Record<keyof typeof SIZE, number>;
-/** The rooms that their owners have left, by size.
- * @type {Map<number, number[]>} */
+/** The rooms that their owners have left, by size. */
 declare const left: Map<number, number[]>;
-/** Throws the code of a call that was not served.
- * @param {number} code */
+/** Throws the code of a call that was not served. */
 declare function served(code: number): void;
 declare namespace SIZE {
     const other: number;

@@ -2,78 +2,6 @@
 /**
  * The library as agc.h has it. tools/bindings wrote this from agc.h, the tables of keys and the forms of lines.
  */
-/**
- * What agc.wasm exports, for those who instantiate it themselves: the calls as agc.h has them. Pointers are places in
- * `memory` from `__heap_base` on, of which a caller makes as much as it wants by `memory.grow`. What is returned as a
- * struct in C is written to `answer`.
- * @typedef {{
- *  memory: WebAssembly.Memory, __heap_base: WebAssembly.Global,
- *  agc_plan_check(plan: bigint): number,
- *  agc_step(answer: bigint, words: bigint, sets: number, plan: bigint, request: bigint, fired: bigint, moment: bigint): void,
- *  agc_step_trusted(answer: bigint, words: bigint, sets: number, plan: bigint, request: bigint, fired: bigint, moment: bigint): void,
- *  agc_begin(words: bigint, sets: number, alarm: number, entries: bigint, entry_count: bigint): number,
- *  agc_begin_trusted(words: bigint, sets: number, alarm: number, entries: bigint, entry_count: bigint): number,
- *  agc_power_up(answer: bigint, words: bigint, sets: number, entries: bigint, entry_count: bigint, phase_words: bigint): void,
- *  agc_power_up_trusted(answer: bigint, words: bigint, sets: number, entries: bigint, entry_count: bigint, phase_words: bigint): void,
- *  agc_read_request(text: bigint, length: bigint, request: bigint): number,
- *  agc_read_action(text: bigint, length: bigint, action: bigint): number,
- *  agc_write_reply(answer: bigint, step: bigint, fired: bigint, text: bigint, room: bigint): void,
- *  agc_write_rule(answer: bigint, rule: number, text: bigint, room: bigint): void,
- *  agc_write_report(answer: bigint, words: bigint, sets: number, totals: bigint, text: bigint, room: bigint): void,
- *  agc_refusal(request: bigint, bounds: bigint): number,
- *  agc_pulse(answer: bigint, line: number, key: bigint, key_count: bigint, radar: bigint, radar_count: bigint, requests: bigint): void,
- *  agc_clock_check(table: bigint): number,
- *  agc_clock_next(answer: bigint, words: bigint, sets: number, table: bigint, clock: bigint, request: bigint): void,
- *  agc_clock_next_trusted(answer: bigint, words: bigint, sets: number, table: bigint, clock: bigint, request: bigint): void,
- *  agc_clock_served(words: bigint, sets: number, step: bigint, clock: bigint): number,
- *  agc_clock_served_trusted(words: bigint, sets: number, step: bigint, clock: bigint): number,
- *  agc_clock_told(step: bigint, clock: bigint, event: bigint): number,
- *  agc_clear(words: bigint, sets: number): number,
- *  agc_check(answer: bigint, words: bigint, sets: number): void,
- *  agc_explain(answer: bigint, words: bigint, sets: number): void,
- *  agc_job_at(answer: bigint, words: bigint, sets: number, set: number): void,
- *  agc_next(answer: bigint, words: bigint, sets: number): void,
- *  agc_task_at(answer: bigint, words: bigint, sets: number, place: number): void,
- *  agc_phase_at(answer: bigint, words: bigint, sets: number, group: number): void,
- *  agc_failreg(answer: bigint, words: bigint, sets: number, place: number): void,
- *  agc_scene(words: bigint, sets: number, scene: bigint): number,
- *  agc_version(): number,
- *  agc_restart(words: bigint, sets: number): number,
- *  agc_migrate(words: bigint): number,
- *  agc_novac(answer: bigint, words: bigint, sets: number, priority: number, at: number, bank: number): void,
- *  agc_findvac(answer: bigint, words: bigint, sets: number, priority: number, at: number, bank: number): void,
- *  agc_end_of_job(answer: bigint, words: bigint, sets: number): void,
- *  agc_job_sleep(answer: bigint, words: bigint, sets: number, at: number): void,
- *  agc_job_wake(answer: bigint, words: bigint, sets: number, at: number): void,
- *  agc_prio_change(answer: bigint, words: bigint, sets: number, priority: number): void,
- *  agc_change_job(answer: bigint, words: bigint, sets: number): void,
- *  agc_store(answer: bigint, words: bigint, sets: number, place: number, word: number): void,
- *  agc_running(answer: bigint, words: bigint, sets: number): void,
- *  agc_list(answer: bigint, words: bigint, sets: number, delay: number, at: number, bank: number): void,
- *  agc_count_time3(answer: bigint, words: bigint, sets: number): void,
- *  agc_due(answer: bigint, words: bigint, sets: number): void,
- *  agc_dispatch(answer: bigint, words: bigint, sets: number): void,
- *  agc_set_phase(words: bigint, sets: number, group: number, phase: number): number,
- *  agc_record_alarm(words: bigint, sets: number, alarm: number): number,
- *  agc_recover(answer: bigint, words: bigint): void,
- *  agc_add(answer: bigint, a: number, b: number): void,
- *  agc_negative(answer: bigint, word: number): void,
- *  agc_value(answer: bigint, word: number): void,
- * }} Library
- */
-/** @typedef {{ sets?: number, limit?: number, allowance?: number, attends?: number, key?: string | readonly string[], radar?: string | readonly string[], power?: readonly string[], script?: readonly string[], task?: readonly Task[], phase?: readonly Phase[], worker?: readonly Worker[], device?: readonly Device[] }} Bench */
-/** @typedef {{ at: string | number, bank: string | number, action: string | readonly string[] }} Task */
-/** @typedef {{ group: number, phase: number, job?: string, task?: string }} Phase */
-/** @typedef {{ script: readonly string[] }} Worker */
-/** @typedef {{ script: readonly string[], repeat?: boolean }} ExploredWorker */
-/** @typedef {{ line: string, pulses: number }} Device */
-/** @typedef {{ seconds: number, title?: string, seed?: number, sets?: number, limit?: number, allowance?: number, key?: string | readonly string[], radar?: string | readonly string[], power?: readonly string[], steal?: number, task?: readonly NamedTask[], phase?: readonly NamedPhase[], job?: readonly Job[], event?: readonly Event[] }} Scenario */
-/** @typedef {{ at: string | number, bank: string | number, action: string | readonly string[], name?: string }} NamedTask */
-/** @typedef {{ group: number, phase: number, job?: string, task?: string, name?: string }} NamedPhase */
-/** @typedef {{ from: number, to: number, percent: number, every?: number, until?: number }} Steal */
-/** @typedef {{ from: number, to: number }} Cost */
-/** @typedef {{ at: string | number, cost: number, deadline?: number, then?: string | readonly string[], name?: string }} Job */
-/** @typedef {{ at: number, after?: string, do: string | readonly string[], every?: number, until?: number, name?: string }} Event */
 /** What a call or a document lacked: the first that applies. */
 export const Code: Readonly<{
     OK: "OK";
@@ -99,8 +27,7 @@ export const Code: Readonly<{
     MISSING_KEY: "MISSING_KEY";
     WRONG_TYPE: "WRONG_TYPE";
 }>;
-/** The numbers of codes.
- * @type {Record<string, number>} */
+/** The numbers of codes. */
 export const CODE_NUMBERS: Record<string, number>;
 /** The kinds of replies. */
 export const Kind: Readonly<{
@@ -119,11 +46,9 @@ export const Kind: Readonly<{
     TICK_ALARMED: 13;
     RESTARTED: 14;
 }>;
-/** Texts, by the codes' names.
- * @type {Record<string, string>} */
+/** Texts, by the codes' names. */
 export const CODE_TEXTS: Record<string, string>;
-/** Texts, by the kinds' numbers.
- * @type {Record<number, string>} */
+/** Texts, by the kinds' numbers. */
 export const REPLY_TEXTS: Record<number, string>;
 /** How many there are of what, and the places of words. */
 export const NUMBERS: Readonly<{
@@ -156,13 +81,11 @@ export const NUMBERS: Readonly<{
     REPORT: 2048;
     ANY: 65535;
 }>;
-/** How large each struct is, and where its fields are in it.
- * @type {Record<string, Record<string, number>>} */
+/** How large each struct is, and where its fields are in it. */
 export const LAYOUT: Record<string, Record<string, number>>;
 /** What each place of the words is called. */
 export const PLACES: string[];
-/** The numbers of lines: `digits` is how many octal ones, and 0 where a number is decimal.
- * @type {Record<string, { name: string, sentence: string, digits: number, low: number, high: number }>} */
+/** The numbers of lines: `digits` is how many octal ones, and 0 where a number is decimal. */
 export const PARTS: Record<string, {
     name: string;
     sentence: string;
@@ -184,9 +107,7 @@ export const LISTING_KINDS: string[];
 /** What is wrong with a line that begins as none of a list does. */
 export const OTHERWISE: Map<string[], string>;
 export const DEVICES: string[];
-/** @typedef {{ kind: string, form: string, low: number, high: bigint, required: boolean }} Key */
-/** The keys of each kind of table.
- * @type {Record<string, Record<string, Key>>} */
+/** The keys of each kind of table. */
 export const KEYS: Record<string, Record<string, Key>>;
 /**
  * What agc.wasm exports, for those who instantiate it themselves: the calls as agc.h has them. Pointers are places in

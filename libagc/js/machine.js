@@ -271,7 +271,8 @@ function integer(what, given, low = 0, high = MOST, code = Code.OUT_OF_RANGE, di
   if (!Number.isSafeInteger(given) && !(typeof given === "bigint" && typeof high === "bigint")) throw wrong(what, "an integer", given);
   if (number >= low && number <= high) return number;
   const [is, least, most] = [number, low, high].map((it) => it.toString(digits === 0 ? 10 : 8));
-  throw fault(code, what, ` is ${is}${digits === 0 ? "" : " (octal)"}, but must be ${least} to ${most}`);
+  const to = Number(high) === low + 1 ? "or" : "to";
+  throw fault(code, what, ` is ${is}${digits === 0 ? "" : " (octal)"}, but must be ${least} ${to} ${most}`);
 }
 
 /** A count that JSON has and no number holds, as the most that one does. @template T @param {T} given @returns {T | number} */
@@ -304,7 +305,7 @@ function unknown(key, level, keys) {
  * @param {Place} what @param {any} given @param {string[]} keys @param {string[]} [wanted] @param {string} [level]
  */
 function known(what, given, keys, wanted = [], level = "") {
-  if (!isPlain(given)) throw wrong(what.row === null ? `${what}` : what, "a plain object", given);
+  if (!isPlain(given)) throw what.row === null ? wrong(`${what}`, "a plain object", given) : wrong(what, "a table", given);
   const other = Object.keys(given).find((it) => given[it] !== undefined && !keys.includes(it));
   if (other !== undefined) {
     const place = new Place(what.text, what.row, other);
@@ -392,9 +393,7 @@ function valueOf(table, level, name, given) {
 
 /** What the tables of an array say. @param {Place} what @param {string} name @param {boolean} isOnly @param {string} form @param {number | bigint} high @param {any} given */
 function tablesOf(what, name, isOnly, form, high, given) {
-  if (!Array.isArray(given)) {
-    throw fault(Code.WRONG_TYPE, what, ` is ${isOnly ? "" : "an integer or "}an array of tables: write [[${name}]]`);
-  }
+  if (!Array.isArray(given)) throw wrong(what, `${isOnly ? "" : "an integer or "}an array of tables`, given);
   const level = form === "worker" ? "exploredWorker" : form;
   return items(what, given, "tables", 0, high).map((it, k) => tableOf(new Place(`${name} ${k + 1}`, `${name} ${k + 1}`), level, it));
 }
@@ -882,9 +881,8 @@ function askedAt() {
 const BOUNDS = ["served", "allowance", "logged", "limit"];
 const TOTALS = ["served", "alarms", "restarts"];
 
-/** The totals of a state; a version before wrote a list of them. @param {any} given @returns {Totals} */
-function totalsOf(given) {
-  const found = Array.isArray(given) ? Object.fromEntries(given.map((it, k) => [TOTALS[k], it])) : given;
+/** The totals of a state. @param {any} found @returns {Totals} */
+function totalsOf(found) {
   known(new Place("totals", "totals"), found, TOTALS, TOTALS);
   const count = (/** @type {string} */ what, /** @type {any} */ it) =>
     integer(keyAt("totals", what), held(it), 0, Number.MAX_SAFE_INTEGER);

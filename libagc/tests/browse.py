@@ -1,8 +1,10 @@
-"""Runs libagc/js in Chromium, without a window: a tenth of the random requests and benches, each code, and the speed.
+"""Runs libagc/js in Chromium, without a window: a tenth of the random requests and benches, what is worked out by hand, and
+the speed.
 
-    browse.py REQUESTS STEPS SCENES
+    browse.py LINES WANTED ..
 
-REQUESTS are script lines, STEPS and SCENES what inputs.py writes. The modules come from a server of this process, at an
+Each file of lines is as caller.py describes them, and has to write what the file behind it has; a file of benches is cut
+to its first tenth. The modules come from a server of this process, at an
 address of this machine. Where no browser is found, it says that nothing was tried. Fails where something differs.
 """
 
@@ -54,12 +56,10 @@ class Files(http.server.SimpleHTTPRequestHandler):
         pass
 
 
-# Replies and reports of these lines, each code, and how long a call takes.
+# What is written of these lines, and how long a call takes.
 RUN = """(async () => {
   const agc = await import('/js/agc.js');
-  const steps = await import('/tests/steps.mjs');
-  steps.refuses(agc);
-  steps.keeps(agc);
+  const { written } = await import('/tests/caller.mjs');
   let said = '';
   await import('/absent/agc.js').catch((fault) => { said = String(fault); });
   if (!said.includes("agc.wasm can't be fetched: status 404")) throw new Error(`no module, and it says ${said}`);
@@ -71,7 +71,7 @@ RUN = """(async () => {
     for (let k = 0; k < 50000; k++) machine.ask('findvac', 0o30, 0o2100, 5);
     best = Math.min(best, performance.now() - began);
   }
-  return { texts: given.map((it) => steps.written(agc, it.sets, it.lines)), nanoseconds: (best * 1e6) / 50000 };
+  return { texts: given.map((it) => written(agc, it)), nanoseconds: (best * 1e6) / 50000 };
 })()"""
 
 
@@ -80,20 +80,14 @@ def lines_of(path):
         return file.read().splitlines()
 
 
-def front_of(steps, scenes):
-    """A tenth of the benches, and what is wanted of them: each ends with the three counts of its report."""
-    benches = sum(it.startswith("next ") for it in steps) + 1
-    ends = [k for k, it in enumerate(steps) if it.startswith("next ")]
-    told = [k for k, it in enumerate(scenes) if it.startswith("RESTARTS ")]
-    count = benches // PART
-    return steps[: ends[count - 1]], scenes[: told[count - 1] + 1]
-
-
-def by_node(sets, lines):
-    """What node writes of these lines, which libagc/run has compared with agc."""
-    words = ["node", f"{HERE}/steps.mjs", f"{HERE}/../js/agc.js", str(sets)]
-    given = "".join(f"{it}\n" for it in lines)
-    return subprocess.run(words, input=given, stdout=subprocess.PIPE, text=True, check=True).stdout
+def front_of(lines, wanted):
+    """The first tenth of benches, and what is wanted of them: each ends with the three counts of its report."""
+    begins = [k for k, it in enumerate(lines) if it.startswith("bench ")]
+    if len(begins) < PART:
+        return lines, wanted
+    ends = [k for k, it in enumerate(wanted) if it.startswith("RESTARTS ")]
+    count = len(begins) // PART
+    return lines[: begins[count]], wanted[: ends[count - 1] + 1]
 
 
 def ask(command, given):
@@ -118,17 +112,15 @@ def ask(command, given):
 
 
 def main():
-    requests, steps, scenes = map(lines_of, sys.argv[1:])
+    files = [*map(lines_of, sys.argv[1:])]
     command = next(filter(None, map(shutil.which, tools_browse().BROWSERS)), None)
     if command is None:
         print("libagc: no browser, so JavaScript is tried in node alone")
         return 0
-    front, wanted = front_of(steps, scenes)
-    requests = requests[: len(requests) // PART]
-    found = ask(command, [{"sets": 7, "lines": requests}, {"sets": 8, "lines": requests}, {"sets": 7, "lines": front}])
-    wanted = [by_node(7, requests), by_node(8, requests), "".join(f"{it}\n" for it in wanted)]
-    failed = [f"text {k}" for k, (one, other) in enumerate(zip(wanted, found["texts"])) if one != other]
-    if len(found["texts"]) != 3 or failed:
+    pairs = [front_of(*it) for it in zip(files[::2], files[1::2])]
+    found = ask(command, [lines for lines, _ in pairs])
+    failed = [k for k, ((_, wanted), text) in enumerate(zip(pairs, found["texts"])) if text.splitlines() != wanted]
+    if failed:
         print(f"browse.py: Chromium writes something else: {failed}")
         return 1
     if found["nanoseconds"] > MOST_NANOSECONDS:

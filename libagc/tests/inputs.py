@@ -4,14 +4,10 @@
     inputs.py benches PROGRAM SEED COUNT FOLDER
     inputs.py scenarios SEED COUNT FOLDER
 
-Of each bench `lines` in the folder has the plan's lines, `entry` and `row`, the words found at power-up, and its script; a
-line `next SETS` separates two benches, and the first has seven core sets. `wanted` has what `agc serial` writes, and the
-model. `steps` has the same lines, and here and there `scene` and `moment`: what stands in the tables now, and what stood
-there when the last request was answered. `scenes` has what a caller with a class tells then, `moments` reports in place of
-these. Fails where agc and the model differ, or an alarm never came, by itself or inside a tick.
-
-The lines of `scenarios` are described in clocks.c. `passed` has a line for each request that is asked: the centisecond, who
-asks (0 a person, 1 the clock, from 2 on the events), its kind and numbers, and the reply.
+caller.py says what the lines are. Of each bench `lines` in the folder has the plan, the words found at power-up, and its
+script; `wanted` has what `agc serial` writes, and the model. `steps` has the same lines, and here and there `scene` and
+`moment`. `scenes` has what a caller with a class tells then, `moments` reports in place of these. Fails where agc and the
+model differ, or an alarm never came, by itself or inside a tick. `passed` has what comes of `scenarios`.
 """
 import os
 import subprocess
@@ -59,7 +55,7 @@ def benches(program, seed, count):
     for k in range(count):
         dice = make.Dice(f"{seed} {k}")
         made = make.plain_bench(dice, dice.lines(dice.randint(20, 200)))
-        made["sets"] = 7 if k == 0 else dice.choice([7, 8])
+        made["sets"] = dice.choice([7, 8])
         bench, text = documents.Bench(made), make.toml(made, dice)
         ran = subprocess.run([program, "serial"], input=text, capture_output=True, text=True, check=False)
         run = orders.Run(bench, bench.script)
@@ -67,8 +63,8 @@ def benches(program, seed, count):
             sys.exit(f"inputs.py: agc and the plain model differ:\n{text}\n{ran.stdout}\n{run.text}\n{ran.stderr}")
         steps, scenes, moments = watched(bench, dice)
         lines = [*documents.caller_lines(bench, bench.script)]
-        separator = [f"next {bench.sets}"] * (k > 0)
-        for name, more in (("lines", separator + lines), ("wanted", run.text.splitlines()), ("steps", separator + steps),
+        begins = [f"bench {bench.sets}"]
+        for name, more in (("lines", begins + lines), ("wanted", run.text.splitlines()), ("steps", begins + steps),
                            ("scenes", scenes), ("moments", moments)):
             files[name] += more
     alarms = {it.split(" ")[0] + it[-5:] for it in files["wanted"] if "alarm " in it}

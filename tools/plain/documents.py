@@ -208,17 +208,15 @@ def bench_of(scenario):
     return Bench({**kept, "limit": 10**9, "allowance": 10**9})
 
 
-# Lines for the callers of libagc in other languages, as libagc/tests/steps.c and clocks.c read them.
+# Lines for the callers of libagc: libagc/tests/caller.py says what these are.
 
 def caller_lines(bench, requests):
     """The plan, the words found at power-up, and requests."""
-    for key, begun in bench.entries.items():
-        job = next((it for it in begun if it[0] in JOBS), ("novac", 0, 0, 0))
-        task = next((it for it in begun if it[0] == "list"), ("list", 0, 0, 0))
-        kind = 0 if job[1] == 0 else 1 + [*JOBS].index(job[0])
-        yield " ".join(map(str, ["entry", *key, kind, *texts_of(job)[1:], *texts_of(task)[1:]]))
+    for (group, phase), begun in bench.entries.items():
+        job, task = ("".join(line_of(it) for it in begun if (it[0] in JOBS) == is_job and it[0] != "nothing") for is_job in (True, False))
+        yield f"phase {group} {phase}|{job}|{task}"
     for (at, bank), actions in bench.rows.items():
-        yield from (f"row {at:05o} {bank:05o} {line_of(it)}" for it in actions)
+        yield "|".join([f"task {at:05o} {bank:05o}", *map(line_of, actions)])
     if bench.power is not None:
         yield "power " + " ".join(f"{it:05o}" for it in bench.power)
     yield from map(line_of, requests)

@@ -150,7 +150,7 @@ def requests_of(scenario):
     return [it.line for it in Clock(scenario).run()]
 
 
-# Scenarios as lines, for the callers of libagc in other languages: libagc/tests/clocks.c says what these are.
+# Scenarios as lines, for the callers of libagc in other languages: libagc/tests/caller.py says what these are.
 
 def line_of_parts(name, *parts):
     numbers, *lines = parts
@@ -161,10 +161,7 @@ def caller_lines(scenario, steps):
     """A scenario, and then how long time passes, and what a person asks in between: pairs of centiseconds and lines."""
     day = 8640000
     yield line_of_parts("scenario", [scenario.get("sets", 7), scenario["seconds"], scenario.get("seed", 1)])
-    for row in scenario.get("task", []):
-        yield line_of_parts("task", [row["at"], row["bank"]], *documents.list_of(row["action"]))
-    for row in scenario.get("phase", []):
-        yield line_of_parts("phase", [row["group"], row["phase"]], row.get("job", ""), row.get("task", ""))
+    yield from documents.caller_lines(documents.bench_of(scenario), [])
     steal = scenario.get("steal", 0)
     for row in steal if isinstance(steal, list) else [{"from": 0, "to": day, "percent": steal}]:
         yield line_of_parts("steal", [row["from"], row["to"], row["percent"], row.get("every", 0), row.get("until", day)])
