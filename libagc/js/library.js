@@ -64,13 +64,13 @@
 
 /** @typedef {{ sets?: number, limit?: number, allowance?: number, attends?: number, key?: string | readonly string[], radar?: string | readonly string[], power?: readonly string[], script?: readonly string[], task?: readonly Task[], phase?: readonly Phase[], worker?: readonly Worker[], device?: readonly Device[] }} Bench */
 /** @typedef {{ at: string | number, bank: string | number, action: string | readonly string[] }} Task */
+/** @typedef {{ at: string | number, bank: string | number, action: string | readonly string[], name?: string }} NamedTask */
 /** @typedef {{ group: number, phase: number, job?: string, task?: string }} Phase */
+/** @typedef {{ group: number, phase: number, job?: string, task?: string, name?: string }} NamedPhase */
 /** @typedef {{ script: readonly string[] }} Worker */
 /** @typedef {{ script: readonly string[], repeat?: boolean }} ExploredWorker */
 /** @typedef {{ line: string, pulses: number }} Device */
 /** @typedef {{ seconds: number, title?: string, seed?: number, sets?: number, limit?: number, allowance?: number, key?: string | readonly string[], radar?: string | readonly string[], power?: readonly string[], steal?: number, task?: readonly NamedTask[], phase?: readonly NamedPhase[], job?: readonly Job[], event?: readonly Event[] }} Scenario */
-/** @typedef {{ at: string | number, bank: string | number, action: string | readonly string[], name?: string }} NamedTask */
-/** @typedef {{ group: number, phase: number, job?: string, task?: string, name?: string }} NamedPhase */
 /** @typedef {{ from: number, to: number, percent: number, every?: number, until?: number }} Steal */
 /** @typedef {{ from: number, to: number }} Cost */
 /** @typedef {{ at: string | number, cost: number, deadline?: number, then?: string | readonly string[], name?: string }} Job */
@@ -358,11 +358,24 @@ export const KEYS = Object.freeze({
     bank: { kind: "text", form: "word", low: 0, high: 18446744073709551615n, required: true },
     action: { kind: "oneOrMore", form: "action", low: 1, high: 4n, required: true },
   },
+  namedTask: {
+    at: { kind: "text", form: "address", low: 0, high: 18446744073709551615n, required: true },
+    bank: { kind: "text", form: "word", low: 0, high: 18446744073709551615n, required: true },
+    action: { kind: "oneOrMore", form: "action", low: 1, high: 4n, required: true },
+    name: { kind: "text", form: "name", low: 0, high: 18446744073709551615n, required: false },
+  },
   phase: {
     group: { kind: "integer", form: "", low: 1, high: 6n, required: true },
     phase: { kind: "integer", form: "", low: 1, high: 127n, required: true },
     job: { kind: "text", form: "job", low: 0, high: 18446744073709551615n, required: false },
     task: { kind: "text", form: "listing", low: 0, high: 18446744073709551615n, required: false },
+  },
+  namedPhase: {
+    group: { kind: "integer", form: "", low: 1, high: 6n, required: true },
+    phase: { kind: "integer", form: "", low: 1, high: 127n, required: true },
+    job: { kind: "text", form: "job", low: 0, high: 18446744073709551615n, required: false },
+    task: { kind: "text", form: "listing", low: 0, high: 18446744073709551615n, required: false },
+    name: { kind: "text", form: "name", low: 0, high: 18446744073709551615n, required: false },
   },
   worker: {
     script: { kind: "texts", form: "request", low: 0, high: 18446744073709551615n, required: true },
@@ -390,19 +403,6 @@ export const KEYS = Object.freeze({
     phase: { kind: "tables", form: "namedPhase", low: 0, high: 18446744073709551615n, required: false },
     job: { kind: "tables", form: "job", low: 0, high: 100n, required: false },
     event: { kind: "tables", form: "event", low: 0, high: 1000n, required: false },
-  },
-  namedTask: {
-    at: { kind: "text", form: "address", low: 0, high: 18446744073709551615n, required: true },
-    bank: { kind: "text", form: "word", low: 0, high: 18446744073709551615n, required: true },
-    action: { kind: "oneOrMore", form: "action", low: 1, high: 4n, required: true },
-    name: { kind: "text", form: "name", low: 0, high: 18446744073709551615n, required: false },
-  },
-  namedPhase: {
-    group: { kind: "integer", form: "", low: 1, high: 6n, required: true },
-    phase: { kind: "integer", form: "", low: 1, high: 127n, required: true },
-    job: { kind: "text", form: "job", low: 0, high: 18446744073709551615n, required: false },
-    task: { kind: "text", form: "listing", low: 0, high: 18446744073709551615n, required: false },
-    name: { kind: "text", form: "name", low: 0, high: 18446744073709551615n, required: false },
   },
   steal: {
     from: { kind: "integer", form: "", low: 0, high: 8640000n, required: true },

@@ -651,11 +651,24 @@ KEYS = {
         "bank": Key('text', 'word', 0, 18446744073709551615, True),
         "action": Key('oneOrMore', 'action', 1, 4, True),
     },
+    "namedTask": {
+        "at": Key('text', 'address', 0, 18446744073709551615, True),
+        "bank": Key('text', 'word', 0, 18446744073709551615, True),
+        "action": Key('oneOrMore', 'action', 1, 4, True),
+        "name": Key('text', 'name', 0, 18446744073709551615, False),
+    },
     "phase": {
         "group": Key('integer', '', 1, 6, True),
         "phase": Key('integer', '', 1, 127, True),
         "job": Key('text', 'job', 0, 18446744073709551615, False),
         "task": Key('text', 'listing', 0, 18446744073709551615, False),
+    },
+    "namedPhase": {
+        "group": Key('integer', '', 1, 6, True),
+        "phase": Key('integer', '', 1, 127, True),
+        "job": Key('text', 'job', 0, 18446744073709551615, False),
+        "task": Key('text', 'listing', 0, 18446744073709551615, False),
+        "name": Key('text', 'name', 0, 18446744073709551615, False),
     },
     "worker": {
         "script": Key('texts', 'request', 0, 18446744073709551615, True),
@@ -683,19 +696,6 @@ KEYS = {
         "phase": Key('tables', 'namedPhase', 0, 18446744073709551615, False),
         "job": Key('tables', 'job', 0, 100, False),
         "event": Key('tables', 'event', 0, 1000, False),
-    },
-    "namedTask": {
-        "at": Key('text', 'address', 0, 18446744073709551615, True),
-        "bank": Key('text', 'word', 0, 18446744073709551615, True),
-        "action": Key('oneOrMore', 'action', 1, 4, True),
-        "name": Key('text', 'name', 0, 18446744073709551615, False),
-    },
-    "namedPhase": {
-        "group": Key('integer', '', 1, 6, True),
-        "phase": Key('integer', '', 1, 127, True),
-        "job": Key('text', 'job', 0, 18446744073709551615, False),
-        "task": Key('text', 'listing', 0, 18446744073709551615, False),
-        "name": Key('text', 'name', 0, 18446744073709551615, False),
     },
     "steal": {
         "from": Key('integer', '', 0, 8640000, True),

@@ -11,12 +11,12 @@ use crate::messages::{
 use crate::names::{HasName, meant_by, with_name};
 use crate::problem::Problem;
 use agc_document::rows::{
-    BENCH_KEYS, DEVICE_KEYS, EXPLORED_WORKER_KEYS, PHASE_KEYS, TASK_KEYS, WORKER_KEYS,
+    BENCH_KEYS, DEVICE_KEYS, EXPLORED_WORKER_KEYS, NAMED_PHASE_KEYS, NAMED_TASK_KEYS, PHASE_KEYS,
+    TASK_KEYS, WORKER_KEYS,
 };
 use agc_document::{Key, KeyFault, Kind as Valued, Level, Location, TextForm};
 use agc_scenario::rows::{
-    COST, COST_KEYS, EVENT_KEYS, JOB_KEYS, NAMED_PHASE_KEYS, NAMED_TASK_KEYS, SCENARIO_KEYS,
-    SECONDS, STEAL, STEAL_KEYS,
+    COST, COST_KEYS, EVENT_KEYS, JOB_KEYS, SCENARIO_KEYS, SECONDS, STEAL, STEAL_KEYS,
 };
 use agc_text::Field::{Number, Text};
 use agc_text::{Buffer, Field};
@@ -106,8 +106,10 @@ fn expected_value(key: Key) -> Message<'static> {
         Valued::OneOrMore(..) => ("expected a string, or an array of {} {} {} strings", range),
         Valued::Texts(..) if low == 0 => plain("expected an array of strings"),
         Valued::Texts(..) => message_of("expected an array of {} strings", first, NONE),
-        Valued::Tables(_least, u64::MAX) => message_of(TABLES, name, NONE),
-        Valued::Tables(..) | Valued::Explored(..) => message_of(FEW_TABLES, last, name),
+        Valued::Tables(..) | Valued::OtherTables(..) if high == u64::MAX => {
+            message_of(TABLES, name, NONE)
+        }
+        Valued::Tables(..) | Valued::OtherTables(..) => message_of(FEW_TABLES, last, name),
     }
 }
 

@@ -8,29 +8,19 @@ use agc_text::Field::Text;
 #[derive(Clone, Copy)]
 pub enum LineFault {
     Empty,
-    /// The line ends with a carriage return.
-    CarriageReturn,
-    /// The line has a tab.
-    Tab,
-    /// A byte order mark comes before the line.
-    ByteOrderMark,
+    /// The line begins with a space.
+    Space,
     /// The line belongs to a bench.
     OfBench,
-    /// The first word of this kind is written in capitals.
-    Capitals(LineForm),
     /// No line begins with this word. This kind may be meant.
     Unknown(Option<LineForm>),
-    /// The line has more words or fewer, or more than one space.
-    Form(LineForm),
-    /// The first part of the line that is misspelled.
-    Operand(LineWord),
+    /// Why it is none of its kind, as a sentence, and the text for its gap.
+    Wrong(&'static str, &'static str),
 }
 
 const BYTE_ORDER_MARK: &str = "it begins with a byte order mark, which a script may not have";
 
 const OF_BENCH: &str = "this looks like a bench, not a script: leave out --script";
-
-const ALONE: &str = "nothing may follow \"{}\"";
 
 const MEANT: &str = "its first word is unknown; did you mean \"{}\"?";
 
@@ -42,11 +32,15 @@ fn wrong_words(text: &str, kind: LineForm) -> LineFault {
             if let Some(part) = LineWord::of(letter)
                 && !part.is_spelled(word)
             {
-                return LineFault::Operand(part);
+                return LineFault::Wrong(part.spelling(), "");
             }
         }
     }
-    LineFault::Form(kind)
+    if form == kind.name() {
+        LineFault::Wrong("nothing may follow \"{}\"", form)
+    } else {
+        LineFault::Wrong("it has the form \"{}\", with single spaces", form)
+    }
 }
 
 /// The fault of a line that should be of one of these kinds, and isn't.
@@ -55,10 +49,13 @@ pub(crate) fn fault_of(kinds: &[LineForm], text: &str) -> LineFault {
         return LineFault::Empty;
     }
     if text.ends_with('\r') {
-        return LineFault::CarriageReturn;
+        return LineFault::Wrong("a line ends with LF alone, not with CR LF", "");
     }
     if text.contains('\t') {
-        return LineFault::Tab;
+        return LineFault::Wrong("it has a tab; words are separated by single spaces", "");
+    }
+    if text.starts_with(' ') {
+        return LineFault::Space;
     }
     let (word, _rest) = text.split_once(' ').unwrap_or((text, ""));
     let bytes = word.as_bytes();
@@ -66,7 +63,7 @@ pub(crate) fn fault_of(kinds: &[LineForm], text: &str) -> LineFault {
     if let Some(kind) = with_name(word, kinds) {
         wrong_words(text, kind)
     } else if let Some(kind) = kinds.iter().find(in_capitals) {
-        LineFault::Capitals(*kind)
+        LineFault::Wrong("write \"{}\" in lowercase", kind.name())
     } else {
         LineFault::Unknown(meant_by(word, kinds))
     }
@@ -82,8 +79,12 @@ pub(crate) fn is_like_script(text: &str) -> bool {
 /// The fault of a line of a script that is no request.
 pub(crate) fn script_fault(text: &str) -> LineFault {
     match fault_of(&REQUESTS, text) {
-        LineFault::Unknown(_) if text.starts_with('\u{feff}') => LineFault::ByteOrderMark,
-        LineFault::Unknown(_) if text.starts_with('[') || text.contains('=') => LineFault::OfBench,
+        LineFault::Unknown(_) if text.starts_with('\u{feff}') => {
+            LineFault::Wrong(BYTE_ORDER_MARK, "")
+        }
+        LineFault::Unknown(_) | LineFault::Space if text.starts_with('[') || text.contains('=') => {
+            LineFault::OfBench
+        }
         fault => fault,
     }
 }
@@ -93,16 +94,11 @@ impl LineFault {
     pub(crate) fn message_of(self) -> Message<'static> {
         let (text, filling) = match self {
             LineFault::Empty => ("a line may not be empty", ""),
-            LineFault::CarriageReturn => ("a line ends with LF alone, not with CR LF", ""),
-            LineFault::Tab => ("it has a tab; words are separated by single spaces", ""),
-            LineFault::ByteOrderMark => (BYTE_ORDER_MARK, ""),
+            LineFault::Space => ("it begins with a space", ""),
             LineFault::OfBench => (OF_BENCH, ""),
-            LineFault::Capitals(kind) => ("write \"{}\" in lowercase", kind.name()),
             LineFault::Unknown(None) => (NO_REQUEST, ""),
             LineFault::Unknown(Some(kind)) => (MEANT, kind.name()),
-            LineFault::Form(kind) if kind.form() == kind.name() => (ALONE, kind.name()),
-            LineFault::Form(kind) => ("it has the form \"{}\", with single spaces", kind.form()),
-            LineFault::Operand(part) => ("{}", part.spelling()),
+            LineFault::Wrong(text, filling) => (text, filling),
         };
         message_of(text, Text(filling), NONE)
     }

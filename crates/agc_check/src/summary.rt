@@ -6,10 +6,12 @@ use crate::messages::{NONE, NamedText, put_message, put_where};
 use crate::run_counts::{RunCounts, run_requests, run_subject};
 use crate::warnings::{LOG_FULL, Warning, warnings_of};
 use agc_document::Location;
+use agc_phase::recover;
 use agc_plan::Request;
 use agc_run::Subject;
 use agc_text::Field::{Number, Text};
 use agc_text::{Buffer, Field};
+use agc_word::Word;
 use std::alloc::{AllocError, Global};
 
 /// The number of requests that the log of a script holds.
@@ -68,21 +70,23 @@ fn amount(number: u64) -> (Field<'static>, Field<'static>) {
 }
 
 /// Adds how many requests were asked, how many tasks fired, and how many alarms of each code came;
-/// and whether the run was cut short.
-fn put_summary(out: &mut Buffer, ran: &RunCounts) {
+/// and whether the run was cut short. With these words power came back, if it did.
+fn put_summary(out: &mut Buffer, ran: &RunCounts, power: Option<[Word; 12]>) {
     let first = Text(if ran.is_cut { "the first " } else { "" });
     let (requests, of_requests) = amount(ran.requests);
     let (tasks, of_tasks) = amount(ran.fired);
     let fields = [first, requests, of_requests, tasks, of_tasks];
     out.put("ok: {}{} request{}, {} task{} fired", &fields);
-    let all = ran
-        .alarms
+    let is_fresh = power.is_some_and(|words| recover(&words).is_none());
+    let came = ran.alarms;
+    let counts = [u64::from(is_fresh), came[0], came[1], came[2]];
+    let all = counts
         .iter()
         .fold(0_u64, |sum, count| sum.saturating_add(*count));
     let (alarms, of_alarms) = amount(all);
     out.put(", {} alarm{}", &[alarms, of_alarms]);
     let mut is_first = true;
-    for (code, count) in ["1201", "1202", "1203"].iter().zip(ran.alarms.iter()) {
+    for (code, count) in ["1107", "1201", "1202", "1203"].iter().zip(counts.iter()) {
         if *count > 0 {
             let before = Text(if is_first { " (" } else { ", " });
             out.put("{}{}: {}", &[before, Text(code), Number(*count)]);
@@ -107,7 +111,7 @@ pub fn put_report(
     let ran = run_subject(alloc, subject)?.1;
     let warned = warnings_of(alloc, subject, &ran)?;
     put_warnings(alloc, out, (document, subject), warned.as_slice())?;
-    put_summary(out, &ran);
+    put_summary(out, &ran, subject.bench().power());
     Ok(())
 }
 
@@ -129,6 +133,6 @@ pub fn put_script_summary(
         out.put(LOG_FULL, &[Number(first), Number(SCRIPT_LIMIT)]);
         out.text("\n");
     }
-    put_summary(out, &ran);
+    put_summary(out, &ran, None);
     Ok(())
 }

@@ -79,4 +79,5 @@ pub record AreTheKeys : Type 0 where
   pub explored_worker : key.EXPLORED_WORKER_KEYS ≡ explored_worker_keys
   pub each_of_explored : (key.REQUESTS ∷ key.REPEAT ∷ []) ≡ explored_worker_keys
   pub explored : (key.EXPLORED ∷ key.EXPLORED_DEVICES ∷ [])
-      ≡ (Optional name.Worker (kind.Explored 0 32) ∷ Optional name.Device (kind.Explored 0 32) ∷ [])
+      ≡ (Optional name.Worker (kind.OtherTables 0 32)
+      ∷ Optional name.Device (kind.OtherTables 0 32) ∷ [])

@@ -117,15 +117,15 @@ entry ms = do
   task ← read_if text_of key.LISTING ms
   Some (record { group = group; phase = phase; job = job; task = task })
 
--- the keys of a worker's table, by what the value of the key of the workers is
-abbrev pub worker_keys : Kind → List AnyKey
-worker_keys (kind.Explored low high) = key.EXPLORED_WORKER_KEYS
-worker_keys _ = key.WORKER_KEYS
+-- the keys of the tables of an array, by what its key's value is: other tables, or a bench's own
+abbrev pub keys_by : Kind → List AnyKey → List AnyKey → List AnyKey
+keys_by (kind.OtherTables low high) other own = other
+keys_by _ other own = own
 
 -- how many pulses a device has, by what the value of the key of the devices is: one that is
 -- explored and has no number of them never stops, and is given one
 unfoldable pub pulses_by : Kind → Members → Option ℕ
-pulses_by (kind.Explored low high) ms = read_or 1 number_of key.PULSES ms
+pulses_by (kind.OtherTables low high) ms = read_or 1 number_of key.PULSES ms
 pulses_by _ ms = read_at number_of key.PULSES ms
 
 -- the text and number of a device
@@ -167,8 +167,9 @@ lists_in workers devices ms = do
   first ← read_or [] texts_of key.SCRIPT ms
   rows ← read_or [] (tables_of key.TASK_KEYS row) key.TASKS ms
   phases ← read_or [] (tables_of key.PHASE_KEYS entry) key.PHASES ms
-  askers ← read_or [] (tables_of (worker_keys (kind_of workers)) (read_at texts_of key.REQUESTS))
-      workers ms
+  askers ← read_or []
+      (tables_of (keys_by (kind_of workers) key.EXPLORED_WORKER_KEYS key.WORKER_KEYS)
+      (read_at texts_of key.REQUESTS)) workers ms
   lines ← read_or [] (tables_of key.DEVICE_KEYS (device devices)) devices ms
   Some (record { script = first; rows = rows; entries = phases; workers = askers; devices = lines })
 

@@ -62,7 +62,7 @@ bounds_of (kind.Integer low high) = (low, high)
 bounds_of (kind.OneOrMore f low high) = (low, high)
 bounds_of (kind.Texts f low high) = (low, high)
 bounds_of (kind.Tables low high) = (low, high)
-bounds_of (kind.Explored low high) = (low, high)
+bounds_of (kind.OtherTables low high) = (low, high)
 bounds_of _ = (0, 18446744073709551615)
 
 -- for proofs: whether its table must have it

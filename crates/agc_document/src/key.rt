@@ -89,8 +89,8 @@ pub enum Kind {
     Texts(TextForm, u64, u64),
     /// An array of tables, as many as two bounds say.
     Tables(u64, u64),
-    /// An array of workers or devices that are explored, as many as two bounds say.
-    Explored(u64, u64),
+    /// An array of tables that have other keys than in a bench, as many as two bounds say.
+    OtherTables(u64, u64),
 }
 
 /// A key of a table: its name, the kind of its value, and whether the table must have it.
@@ -191,20 +191,16 @@ impl Key {
             Kind::OneOrMore(_form, low, high) => (low, high),
             Kind::Texts(_form, low, high) => (low, high),
             Kind::Tables(low, high) => (low, high),
-            Kind::Explored(low, high) => (low, high),
+            Kind::OtherTables(low, high) => (low, high),
         }
     }
 
     /// The form of its text, or of each text of its array. None if its value has no texts.
     pub fn form(self) -> Option<TextForm> {
         match self.kind() {
-            Kind::Integer(_low, _high) => None,
-            Kind::Flag => None,
             Kind::Text(form) => Some(form),
-            Kind::OneOrMore(form, _low, _high) => Some(form),
-            Kind::Texts(form, _low, _high) => Some(form),
-            Kind::Tables(_low, _high) => None,
-            Kind::Explored(_low, _high) => None,
+            Kind::OneOrMore(form, _low, _high) | Kind::Texts(form, _low, _high) => Some(form),
+            _ => None,
         }
     }
 }
@@ -212,28 +208,17 @@ impl Key {
 impl TextForm {
     /// Whether a text is of this form.
     pub(crate) fn is_spelled_by(self, text: &str) -> bool {
+        let request = || parse_line(text);
         match self {
-            TextForm::Request => parse_line(text).is_some(),
+            TextForm::Request => request().is_some(),
             TextForm::Action => parse_action(text).is_some(),
-            TextForm::Job => match parse_line(text) {
-                Some(request) => job_of(&request).is_some(),
-                None => false,
-            },
-            TextForm::Listing => match parse_line(text) {
-                Some(request) => timed_of(&request).is_some(),
-                None => false,
-            },
+            TextForm::Job => request().is_some_and(|it| job_of(&it).is_some()),
+            TextForm::Listing => request().is_some_and(|it| timed_of(&it).is_some()),
             TextForm::Address => parse_address(text).is_some(),
             TextForm::Word => parse_word(text).is_some(),
             TextForm::Device => parse_kind(text).is_some(),
-            TextForm::Leaving => match parse_line(text) {
-                Some(request) => leaving_of(&request).is_some(),
-                None => false,
-            },
-            TextForm::Step => match parse_line(text) {
-                Some(request) => is_step(&request),
-                None => false,
-            },
+            TextForm::Leaving => request().is_some_and(|it| leaving_of(&it).is_some()),
+            TextForm::Step => request().is_some_and(|it| is_step(&it)),
             TextForm::Name => is_name(text),
         }
     }

@@ -5,7 +5,7 @@ ghost use Rattle.agc_word.specs.Profiles.{count_of};
 ghost use Rattle.agc_plan.specs.Ranges.{IsBetween};
 ghost use Rattle.agc_document.specs.Gives.{GivesOrKey};
 ghost use Rattle.agc_document.specs.Rows.{kind_of, bounds_of};
-ghost use Rattle.agc_document.specs.Keys.{row, entry, worker_keys, pulses_by, device};
+ghost use Rattle.agc_document.specs.Keys.{row, entry, keys_by, pulses_by, device};
 ghost use Rattle.agc_document.specs.Keys.{least, most, texts_of, read_at, read_or};
 ghost use Rattle.agc_document.specs.Keys.{numbers_in, settings_in, lists_in, texts_by};
 ghost use Rattle.agc_document.specs.declared.rows.TheConstants as key_of;
@@ -16,8 +16,8 @@ use crate::key_fault::Level;
 use crate::notes::Notes;
 use crate::rows::{
     ACTION, ALLOWANCE, AT, ATTENDS, BANK, BENCH_KEYS, DEVICE_KEYS, EXPLORED_WORKER_KEYS, GROUP,
-    JOB, KEY, LIMIT, LINE, LISTING, PHASE, PHASE_KEYS, PHASES, POWER, PULSES, RADAR, REQUESTS,
-    SCRIPT, SETS, TASK_KEYS, TASKS, WORKER_KEYS,
+    JOB, KEY, LIMIT, LINE, LISTING, NAMED_PHASE_KEYS, NAMED_TASK_KEYS, PHASE, PHASE_KEYS, PHASES,
+    POWER, PULSES, RADAR, REQUESTS, SCRIPT, SETS, TASK_KEYS, TASKS, WORKER_KEYS,
 };
 use crate::tables::{FromTable, LocatedTable, has_only, items_or_none, read_at, read_if, read_or};
 use crate::texts::{
@@ -26,16 +26,17 @@ use crate::texts::{
 use agc_word::Sets;
 
 impl<'a> FromTable<'a> for RowTexts<'a> {
-    ghost keys = { λ k. key_of.TASK_KEYS };
+    ghost keys = { λ k. keys_by (kind_of k) key_of.NAMED_TASK_KEYS key_of.TASK_KEYS };
 
     ghost fields = { λ k. row };
 
-    fn check_keys(
-        site: LocatedTable<'a>,
-        _key: Key,
-        notes: &mut Notes<'a>,
-    ) -> Result<(), BenchFault> {
-        has_only(site, &TASK_KEYS, Level::Task, notes)
+    fn keys_and_level(key: Key) -> (&'a [Key], Level)
+        ensures { result.0.now ≡ keys_by (kind_of key) key_of.NAMED_TASK_KEYS key_of.TASK_KEYS }
+    {
+        match key.kind() {
+            Kind::OtherTables(_low, _high) => (&NAMED_TASK_KEYS, Level::NamedTask),
+            _ => (&TASK_KEYS, Level::Task),
+        }
     }
 
     #[tactic(auto, unfolding(crate::specs::Keys::row))]
@@ -55,16 +56,17 @@ impl<'a> FromTable<'a> for RowTexts<'a> {
 }
 
 impl<'a> FromTable<'a> for EntryTexts<'a> {
-    ghost keys = { λ k. key_of.PHASE_KEYS };
+    ghost keys = { λ k. keys_by (kind_of k) key_of.NAMED_PHASE_KEYS key_of.PHASE_KEYS };
 
     ghost fields = { λ k. entry };
 
-    fn check_keys(
-        site: LocatedTable<'a>,
-        _key: Key,
-        notes: &mut Notes<'a>,
-    ) -> Result<(), BenchFault> {
-        has_only(site, &PHASE_KEYS, Level::Phase, notes)
+    fn keys_and_level(key: Key) -> (&'a [Key], Level)
+        ensures { result.0.now ≡ keys_by (kind_of key) key_of.NAMED_PHASE_KEYS key_of.PHASE_KEYS }
+    {
+        match key.kind() {
+            Kind::OtherTables(_low, _high) => (&NAMED_PHASE_KEYS, Level::NamedPhase),
+            _ => (&PHASE_KEYS, Level::Phase),
+        }
     }
 
     #[tactic(auto, unfolding(crate::specs::Keys::entry))]
@@ -91,20 +93,17 @@ impl<'a> FromTable<'a> for EntryTexts<'a> {
 }
 
 impl<'a> FromTable<'a> for WorkerTexts<'a> {
-    ghost keys = { λ k. worker_keys (kind_of k) };
+    ghost keys = { λ k. keys_by (kind_of k) key_of.EXPLORED_WORKER_KEYS key_of.WORKER_KEYS };
 
     ghost fields = { λ k. read_at texts_of key_of.REQUESTS };
 
-    fn check_keys(
-        site: LocatedTable<'a>,
-        key: Key,
-        notes: &mut Notes<'a>,
-    ) -> Result<(), BenchFault> {
+    fn keys_and_level(key: Key) -> (&'a [Key], Level)
+        ensures { result.0.now
+            ≡ keys_by (kind_of key) key_of.EXPLORED_WORKER_KEYS key_of.WORKER_KEYS }
+    {
         match key.kind() {
-            Kind::Explored(_low, _high) => {
-                has_only(site, &EXPLORED_WORKER_KEYS, Level::Explored, notes)
-            }
-            _ => has_only(site, &WORKER_KEYS, Level::Worker, notes),
+            Kind::OtherTables(_low, _high) => (&EXPLORED_WORKER_KEYS, Level::Explored),
+            _ => (&WORKER_KEYS, Level::Worker),
         }
     }
 
@@ -131,7 +130,7 @@ fn pulses_by<'a>(
     ensures range { IfOk result (λ x. x ≤ 1000000) }
 {
     match devices.kind() {
-        Kind::Explored(_low, _high) => read_or(site, PULSES, 1, notes),
+        Kind::OtherTables(_low, _high) => read_or(site, PULSES, 1, notes),
         _ => read_at(site, PULSES, notes),
     }
 }
@@ -141,12 +140,10 @@ impl<'a> FromTable<'a> for DeviceTexts<'a> {
 
     ghost fields = { device };
 
-    fn check_keys(
-        site: LocatedTable<'a>,
-        _key: Key,
-        notes: &mut Notes<'a>,
-    ) -> Result<(), BenchFault> {
-        has_only(site, &DEVICE_KEYS, Level::Device, notes)
+    fn keys_and_level(_key: Key) -> (&'a [Key], Level)
+        ensures { result.0.now ≡ key_of.DEVICE_KEYS }
+    {
+        (&DEVICE_KEYS, Level::Device)
     }
 
     #[tactic(auto, unfolding(crate::specs::Keys::device))]

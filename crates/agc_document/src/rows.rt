@@ -1,5 +1,5 @@
 //! The table of keys of a bench: each with the kind of its value, and whether it is required.
-use crate::key::{ANY, Key, KeyName, Kind, TextForm};
+use crate::key::{ANY, Key, KeyName, Kind, TextForm, TimeName};
 
 pub const SETS: Key = Key::Optional(KeyName::Sets, Kind::Integer(7, 8));
 
@@ -26,10 +26,10 @@ pub const WORKERS: Key = Key::Optional(KeyName::Worker, Kind::Tables(0, 32));
 pub const DEVICES: Key = Key::Optional(KeyName::Device, Kind::Tables(0, 32));
 
 /// The workers of a bench that is explored.
-pub const EXPLORED: Key = Key::Optional(KeyName::Worker, Kind::Explored(0, 32));
+pub const EXPLORED: Key = Key::Optional(KeyName::Worker, Kind::OtherTables(0, 32));
 
 /// The devices of a bench that is explored.
-pub const EXPLORED_DEVICES: Key = Key::Optional(KeyName::Device, Kind::Explored(0, 32));
+pub const EXPLORED_DEVICES: Key = Key::Optional(KeyName::Device, Kind::OtherTables(0, 32));
 
 /// The keys of a bench itself.
 pub const BENCH_KEYS: [Key; 12] = [
@@ -45,6 +45,12 @@ pub const ACTION: Key = Key::Required(KeyName::Action, Kind::OneOrMore(TextForm:
 /// The keys of a task's row.
 pub const TASK_KEYS: [Key; 3] = [AT, BANK, ACTION];
 
+/// The name that a table has in a scenario.
+pub const NAME: Key = Key::Optional(KeyName::Time(TimeName::Name), Kind::Text(TextForm::Name));
+
+/// The keys of a task's row in a scenario.
+pub const NAMED_TASK_KEYS: [Key; 4] = [AT, BANK, ACTION, NAME];
+
 pub const GROUP: Key = Key::Required(KeyName::Group, Kind::Integer(1, 6));
 
 pub const PHASE: Key = Key::Required(KeyName::Phase, Kind::Integer(1, 127));
@@ -55,6 +61,9 @@ pub const LISTING: Key = Key::Optional(KeyName::Task, Kind::Text(TextForm::Listi
 
 /// The keys of a phase entry.
 pub const PHASE_KEYS: [Key; 4] = [GROUP, PHASE, JOB, LISTING];
+
+/// The keys of a phase entry in a scenario.
+pub const NAMED_PHASE_KEYS: [Key; 5] = [GROUP, PHASE, JOB, LISTING, NAME];
 
 pub const REQUESTS: Key = Key::Required(KeyName::Script, Kind::Texts(TextForm::Request, 0, ANY));
 

@@ -236,10 +236,9 @@ pub trait FromTable<'a>: Sized + Drop {
     /// The result of reading such a table.
     ghost fields: { AnyKey → Members → Option Self };
 
-    /// Whether a table has these keys and no others.
-    fn check_keys(site: LocatedTable<'a>, key: Key, notes: &mut Notes<'a>) -> Result<(), BenchFault>
-        ensures { GivesOrKey (λ _. table_view site.entry.table.now) result
-            (known_to (keys key) (table_view site.entry.table.now)) };
+    /// These keys, and the level that they have.
+    fn keys_and_level(key: Key) -> (&'a [Key], Level)
+        ensures { result.0.now ≡ keys key };
 
     /// Reads a table. A fault `Key` if it isn't of this type.
     fn from_table(
@@ -257,7 +256,8 @@ impl<'a, T: FromTable<'a>> FromData<'a> for T {
 
     fn from_value(placed: LocatedValue<'a>, notes: &mut Notes<'a>) -> Result<T, BenchFault> {
         let site = table_in(placed, notes)?;
-        let check_keys = T::check_keys(site, placed.key, notes);
+        let (keys, level) = T::keys_and_level(placed.key);
+        let check_keys = has_only(site, keys, level, notes);
         check_keys.and(T::from_table(site, placed.key, notes))
     }
 }
@@ -360,17 +360,6 @@ impl<'a> FromData<'a> for TextList<'a> {
     }
 }
 
-/// Reads an item of an array, if it is wanted, to note its faults.
-fn note_item<'a, T: FromData<'a>>(
-    placed: LocatedValue<'a>,
-    is_wanted: bool,
-    notes: &mut Notes<'a>,
-) {
-    if is_wanted {
-        let _item: Result<T, BenchFault> = T::from_value(placed, notes);
-    }
-}
-
 /// Reads the items of an array after the first that is wrong, to note their faults.
 fn note_others<'a, T: FromData<'a>>(
     values: &'a [Value],
@@ -379,7 +368,9 @@ fn note_others<'a, T: FromData<'a>>(
     notes: &mut Notes<'a>,
 ) {
     for (k, value) in values.iter().enumerate() {
-        note_item::<T>(array.with_item(value, k), first < k, notes);
+        if first < k {
+            let _item: Result<T, BenchFault> = T::from_value(array.with_item(value, k), notes);
+        }
     }
 }
 

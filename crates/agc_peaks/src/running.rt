@@ -49,7 +49,7 @@ impl RunReport {
     ) -> Result<(), Output> {
         match self {
             RunReport::Requests => {
-                let mut pen = TextWriter::new(writer);
+                let mut pen = TextWriter::to(writer);
                 put_script_line(&mut pen, request);
                 pen.end()
             }

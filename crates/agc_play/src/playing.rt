@@ -112,7 +112,7 @@ fn put_refusal(buffer: &mut Buffer, bench: &Bench, refusal: Refusal) {
 /// A bench of the same machine as another's, whose script is these requests.
 fn bench_of(alloc: Global, bench: &Bench, requests: &[Request]) -> Result<Vec<u8>, RunFault> {
     let mut text = Vec::new(alloc);
-    let mut pen = TextWriter::new(&mut text);
+    let mut pen = TextWriter::to(&mut text);
     put_bench(&mut pen, bench, requests);
     match pen.end() {
         Ok(()) => Ok(text),

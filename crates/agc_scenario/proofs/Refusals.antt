@@ -1,5 +1,10 @@
 -- Why a scenario is refused, from why its bench is.
-use Rattle.std.proofs.Common.{◌≡◌, true, Some, refl, ap, subst}
+use Rattle.std.proofs.Common.{◌≡◌, ◌≢◌, ◌∙◌, Bool, true, false, ◌&&◌, List, [], ◌∷◌, ℕ, map, Option, Some, Result, Ok, Err, IfOk, refl, sym, ap, ap₂, subst}
+use Rattle.std.proofs.lemmas.List.{map-id}
+use Rattle.std.proofs.lemmas.Bool.{false≢true}
+use Rattle.std.specs.List.{AllByRecursion}
+use Rattle.agc_document.specs.Gives.{RefusedLine}
+use Rattle.agc_document.proofs.Refusals.{refused_because}
 use Rattle.std.specs.List.{list_all}
 use Rattle.std.specs.Option.{option_map}
 use Rattle.toml.specs.Data.{Members}
@@ -53,3 +58,32 @@ refused_texts ms texts Line t h = (texts, (ms, refl, t), h)
 refused_texts ms texts TaskTwice t h = (texts, (ms, refl, t), h)
 refused_texts ms texts PhaseTwice t h = (texts, (ms, refl, t), h)
 refused_texts ms texts TooManyAreas t h = (texts, (ms, refl, t), h)
+
+-- names that can be shown
+all_shown : (ns : List (Option (List ℕ))) → AllByRecursion (λ n. can_be_shown n ≡ true) ns → list_all can_be_shown ns ≡ true
+all_shown [] h = refl
+all_shown (n ∷ ns) h = ap₂ (λ a b. a && b) h.0 (all_shown ns h.1)
+
+first_true : (a b : Bool) → (a && b) ≡ true → a ≡ true
+first_true true b h = refl
+first_true false b h = absurd (false≢true h)
+
+second_true : (a b : Bool) → (a && b) ≡ true → b ≡ true
+second_true true b h = h
+second_true false b h = absurd (false≢true h)
+
+each_shown : (ns : List (Option (List ℕ))) → list_all can_be_shown ns ≡ true → AllByRecursion (λ n. can_be_shown n ≡ true) ns
+each_shown [] h = tt
+each_shown (n ∷ ns) h = (first_true (can_be_shown n) (list_all can_be_shown ns) h, each_shown ns (second_true (can_be_shown n) (list_all can_be_shown ns) h))
+
+names_found : (names vs : List (Option (List ℕ))) → AllByRecursion (λ n. can_be_shown n ≡ true) vs → names ≡ map (λ n. n) vs → (vs ≡ names) × (list_all can_be_shown names ≡ true)
+names_found names vs h is =
+    let same : vs ≡ names = sym (is ∙ map-id vs) in
+    (same, subst (λ ns. list_all can_be_shown ns ≡ true) same (all_shown vs h))
+
+pub if_names_found : {V E : Type 0} (items : V → List (Option (List ℕ))) (names : List (Option (List ℕ))) (r : Result V E) → IfOk r (λ v. AllByRecursion (λ n. can_be_shown n ≡ true) (items v) × (names ≡ map (λ n. n) (items v))) → IfOk r (λ v. (items v ≡ names) × (list_all can_be_shown names ≡ true))
+if_names_found items names (Ok v) h = names_found names (items v) h.0 h.1
+if_names_found items names (Err e) h = tt
+
+pub names_refused : (names : List (Option (List ℕ))) (fault : BenchFault) → RefusedLine ((vs : List (Option (List ℕ))) → AllByRecursion (λ n. can_be_shown n ≡ true) vs → names ≢ map (λ n. n) vs) fault → RefusedLine (list_all can_be_shown names ≢ true) fault
+names_refused names fault h = refused_because _ _ fault (λ never shown. never names (each_shown names shown) (sym (map-id names))) h

@@ -10,6 +10,7 @@ use Rattle.agc_document.specs.declared.key.Kind.TheVariants as kind
 use Rattle.agc_document.specs.declared.key.Key.{Key as AnyKey}
 use Rattle.agc_document.specs.declared.key.Key.TheVariants.{Required, Optional}
 use Rattle.agc_document.specs.KeyTable.{any}
+use Rattle.agc_document.specs.declared.rows.TheConstants as bench
 use Rattle.agc_scenario.specs.declared.rows.TheConstants as key
 
 -- a centisecond of a day, and so many centiseconds, at least one
@@ -31,8 +32,8 @@ scenario_keys =
     ∷ Optional name.Radar (kind.OneOrMore form.Action 1 4)
     ∷ Optional name.Power (kind.Texts form.Word 12 12)
     ∷ Optional (name.Time time.Steal) (kind.Integer 0 100)
-    ∷ Optional name.Task (kind.Tables 0 any)
-    ∷ Optional name.Phase (kind.Tables 0 any)
+    ∷ Optional name.Task (kind.OtherTables 0 any)
+    ∷ Optional name.Phase (kind.OtherTables 0 any)
     ∷ Optional name.Job (kind.Tables 0 100)
     ∷ Optional (name.Time time.Event) (kind.Tables 0 1000)
     ∷ []
@@ -87,11 +88,11 @@ pub record AreTheKeys : Type 0 where
   pub cost : key.COST_KEYS ≡ cost_keys
   pub job : key.JOB_KEYS ≡ job_keys
   pub event : key.EVENT_KEYS ≡ event_keys
-  pub each_of_job : (key.COST ∷ key.DEADLINE ∷ key.THEN ∷ key.NAME ∷ [])
+  pub each_of_job : (key.COST ∷ key.DEADLINE ∷ key.THEN ∷ bench.NAME ∷ [])
       ≡ (Required (name.Time time.Cost) (kind.Integer 1 1000000)
       ∷ Optional (name.Time time.Deadline) duration
       ∷ Optional (name.Time time.Then) (kind.OneOrMore form.Request 1 8) ∷ name_key ∷ [])
   pub each_of_cost : (key.LEAST ∷ key.MOST ∷ []) ≡ cost_keys
-  pub each_of_event : (key.MOMENT ∷ key.AFTER ∷ key.DO ∷ key.EVERY ∷ key.UNTIL ∷ key.NAME ∷ [])
+  pub each_of_event : (key.MOMENT ∷ key.AFTER ∷ key.DO ∷ key.EVERY ∷ key.UNTIL ∷ bench.NAME ∷ [])
       ≡ event_keys
   pub each_of_steal : (key.FROM ∷ key.TO ∷ key.PERCENT ∷ key.EVERY ∷ key.UNTIL ∷ []) ≡ steal_keys

@@ -24,7 +24,7 @@ use Rattle.agc_scenario.specs.Texts.{TimingTexts, ScenarioTexts, alarm_called, i
 unfoldable pub read_named : {X : Type 0} → (Members → Option X) → Members → Option (Named X)
 read_named fields ms = do
   item ← fields ms
-  name ← read_if text_of own.NAME ms
+  name ← read_if text_of key.NAME ms
   Some (record { item = item; name = name })
 
 -- a row of stolen time that ends after it begins, and if it comes again, not before it ends
@@ -87,7 +87,7 @@ job ms = do
   costs ← read_at cost own.COST ms
   deadline ← read_if number_of own.DEADLINE ms
   requests ← read_or (codes "end" ∷ []) texts_of own.THEN ms
-  name ← read_if text_of own.NAME ms
+  name ← read_if text_of key.NAME ms
   Some (record { at = at; cost = costs; deadline = deadline; requests = requests; name = name })
 
 -- an event
@@ -98,7 +98,7 @@ event ms = do
   requests ← read_at texts_of own.DO ms
   every ← read_if number_of own.EVERY ms
   until ← read_if number_of own.UNTIL ms
-  name ← read_if text_of own.NAME ms
+  name ← read_if text_of key.NAME ms
   Some (record {
     at = at;
     after = after;
@@ -168,8 +168,8 @@ timing_in ms = do
 -- the tasks and phases
 unfoldable pub named_in : Members → Option NamedTexts
 named_in ms = do
-  rows ← read_or [] (tables_of own.NAMED_TASK_KEYS (read_named row)) own.NAMED_TASKS ms
-  entries ← read_or [] (tables_of own.NAMED_PHASE_KEYS (read_named entry)) own.NAMED_PHASES ms
+  rows ← read_or [] (tables_of key.NAMED_TASK_KEYS (read_named row)) own.NAMED_TASKS ms
+  entries ← read_or [] (tables_of key.NAMED_PHASE_KEYS (read_named entry)) own.NAMED_PHASES ms
   Some (record { rows = rows; entries = entries })
 
 -- the lists of a bench that has these tasks and phases, and asks for nothing by itself

@@ -4,8 +4,8 @@ ghost use Rattle.std.specs.Prelude.{if◌then◌else◌, Some, None};
 ghost use Rattle.toml.specs.View.{view, table_view};
 ghost use Rattle.agc_document.specs.declared.key.Key.{Key as AnyKey};
 ghost use Rattle.agc_document.specs.Gives.{GivesOrKey};
-ghost use Rattle.agc_document.specs.Keys.{entry, least, most, number_of, read_at, read_if};
-ghost use Rattle.agc_document.specs.Keys.{read_or, row, texts_of};
+ghost use Rattle.agc_document.specs.Keys.{least, most, number_of, read_at, read_if, read_or};
+ghost use Rattle.agc_document.specs.Keys.{texts_of};
 ghost use Rattle.agc_scenario.specs.declared.rows.TheConstants as key_of;
 ghost use Rattle.agc_scenario.specs.Keys.{forward, stolen_rows, read_named};
 ghost use Rattle.agc_scenario.specs.Keys.{stolen_row, job, event, always, ample_settings_in};
@@ -16,83 +16,47 @@ use crate::apart::{are_apart, are_distinct};
 use crate::counting::{can_draw, count_from_above};
 use crate::rows::{
     AFTER, BEFORE, COST, COST_KEYS, DEADLINE, DO, EVENT_KEYS, EVENTS, EVERY, FROM, JOB_KEYS, JOBS,
-    LAST, LEAST, MOMENT, MOST, NAME, NAMED_PHASE_KEYS, NAMED_PHASES, NAMED_TASK_KEYS, NAMED_TASKS,
-    PERCENT, SCENARIO_KEYS, SECONDS, SEED, STEAL, STEAL_KEYS, THEN, TITLE, TO, UNTIL,
+    LAST, LEAST, MOMENT, MOST, NAMED_PHASES, NAMED_TASKS, PERCENT, SCENARIO_KEYS, SECONDS, SEED,
+    STEAL, STEAL_KEYS, THEN, TITLE, TO, UNTIL,
 };
 use crate::texts::{
     EventTexts, JobTexts, Named, NamedTexts, ScenarioTexts, StolenRow, TimingTexts,
 };
 use crate::timing::CostRange;
 use agc_clock::{LAST_TIME, Stolen};
-use agc_document::rows::{ALLOWANCE, AT, LIMIT};
+use agc_document::rows::{ALLOWANCE, AT, LIMIT, NAME};
 use agc_document::{
-    BenchFault, EntryTexts, FromData, FromTable, Key, KeyFault, Level, Lists, LocatedTable,
-    LocatedValue, Location, Notes, RowTexts, Settings, Text, TextList, Texts, has_only, items_of,
-    items_or_none, read_at, read_if, read_or, settings_in, table_in, value_of,
+    BenchFault, FromData, FromTable, Key, KeyFault, Level, Lists, LocatedTable, LocatedValue,
+    Location, Notes, Settings, Text, TextList, Texts, has_only, items_of, items_or_none, read_at,
+    read_if, read_or, settings_in, table_in, value_of,
 };
 use agc_text::parse_line;
 use std::alloc::{AllocError, Global};
 use toml::{Table, Value};
 
-/// Reads a table and its name.
-#[tactic(auto, unfolding(crate::specs::Keys::read_named))]
-fn read_named<'a, T: FromTable<'a>>(
-    site: LocatedTable<'a>,
-    key: Key,
-    notes: &mut Notes<'a>,
-) -> Result<Named<'a, T>, BenchFault>
-    ensures { GivesOrKey (λ n. n) result
-        (read_named (T.fields key) (table_view site.entry.table.now)) }
-{
-    let item = T::from_table(site, key, notes);
-    let name = read_if(site, NAME, notes);
-    match (item, name) {
-        (Ok(item), Ok(name)) => Ok(Named { item, name }),
-        (Err(fault), _) | (_, Err(fault)) => Err(fault),
-    }
-}
+impl<'a, T: FromTable<'a>> FromTable<'a> for Named<'a, T> {
+    ghost keys = { T.keys };
 
-impl<'a> FromTable<'a> for Named<'a, RowTexts<'a>> {
-    ghost keys = { λ k. key_of.NAMED_TASK_KEYS };
+    ghost fields = { λ k. read_named (T.fields k) };
 
-    ghost fields = { λ k. read_named row };
-
-    fn check_keys(
-        site: LocatedTable<'a>,
-        _key: Key,
-        notes: &mut Notes<'a>,
-    ) -> Result<(), BenchFault> {
-        has_only(site, &NAMED_TASK_KEYS, Level::NamedTask, notes)
+    fn keys_and_level(key: Key) -> (&'a [Key], Level)
+        ensures { result.0.now ≡ T.keys key }
+    {
+        T::keys_and_level(key)
     }
 
+    #[tactic(auto, unfolding(crate::specs::Keys::read_named))]
     fn from_table(
         site: LocatedTable<'a>,
         key: Key,
         notes: &mut Notes<'a>,
     ) -> Result<Self, BenchFault> {
-        read_named(site, key, notes)
-    }
-}
-
-impl<'a> FromTable<'a> for Named<'a, EntryTexts<'a>> {
-    ghost keys = { λ k. key_of.NAMED_PHASE_KEYS };
-
-    ghost fields = { λ k. read_named entry };
-
-    fn check_keys(
-        site: LocatedTable<'a>,
-        _key: Key,
-        notes: &mut Notes<'a>,
-    ) -> Result<(), BenchFault> {
-        has_only(site, &NAMED_PHASE_KEYS, Level::NamedPhase, notes)
-    }
-
-    fn from_table(
-        site: LocatedTable<'a>,
-        key: Key,
-        notes: &mut Notes<'a>,
-    ) -> Result<Self, BenchFault> {
-        read_named(site, key, notes)
+        let item = T::from_table(site, key, notes);
+        let name = read_if(site, NAME, notes);
+        match (item, name) {
+            (Ok(item), Ok(name)) => Ok(Named { item, name }),
+            (Err(fault), _) | (_, Err(fault)) => Err(fault),
+        }
     }
 }
 
@@ -109,17 +73,6 @@ fn forward<'a>(row: Stolen, place: Location, notes: &mut Notes<'a>) -> Result<St
     }
 }
 
-/// A number in fewer bits.
-fn small(number: Option<u64>) -> Option<u32>
-    requires { IfSome number (λ n. n ≤ 2147483646) }
-    ensures { result ≡ number }
-{
-    match number {
-        None => None,
-        Some(number) => Some(number as u32),
-    }
-}
-
 /// An integer of a table, if it is there.
 fn number_if<'a>(
     site: LocatedTable<'a>,
@@ -131,8 +84,11 @@ fn number_if<'a>(
         (read_if number_of key (table_view site.entry.table.now)) }
     ensures range { IfOk result (λ o. IfSome o (λ n. least key ≤ n)) }
 {
-    let number = read_if(site, key, notes)?;
-    Ok(small(number))
+    let number: Option<u64> = read_if(site, key, notes)?;
+    match number {
+        None => Ok(None),
+        Some(number) => Ok(Some(number as u32)),
+    }
 }
 
 impl<'a> FromTable<'a> for StolenRow {
@@ -140,12 +96,10 @@ impl<'a> FromTable<'a> for StolenRow {
 
     ghost fields = { λ k. stolen_row };
 
-    fn check_keys(
-        site: LocatedTable<'a>,
-        _key: Key,
-        notes: &mut Notes<'a>,
-    ) -> Result<(), BenchFault> {
-        has_only(site, &STEAL_KEYS, Level::Steal, notes)
+    fn keys_and_level(_key: Key) -> (&'a [Key], Level)
+        ensures { result.0.now ≡ key_of.STEAL_KEYS }
+    {
+        (&STEAL_KEYS, Level::Steal)
     }
 
     #[tactic(auto, unfolding(crate::specs::Keys::stolen_row))]
@@ -300,12 +254,10 @@ impl<'a> FromTable<'a> for JobTexts<'a> {
 
     ghost fields = { λ k. job };
 
-    fn check_keys(
-        site: LocatedTable<'a>,
-        _key: Key,
-        notes: &mut Notes<'a>,
-    ) -> Result<(), BenchFault> {
-        has_only(site, &JOB_KEYS, Level::Job, notes)
+    fn keys_and_level(_key: Key) -> (&'a [Key], Level)
+        ensures { result.0.now ≡ key_of.JOB_KEYS }
+    {
+        (&JOB_KEYS, Level::Job)
     }
 
     #[tactic(auto, unfolding(crate::specs::Keys::job))]
@@ -338,12 +290,10 @@ impl<'a> FromTable<'a> for EventTexts<'a> {
 
     ghost fields = { λ k. event };
 
-    fn check_keys(
-        site: LocatedTable<'a>,
-        _key: Key,
-        notes: &mut Notes<'a>,
-    ) -> Result<(), BenchFault> {
-        has_only(site, &EVENT_KEYS, Level::Event, notes)
+    fn keys_and_level(_key: Key) -> (&'a [Key], Level)
+        ensures { result.0.now ≡ key_of.EVENT_KEYS }
+    {
+        (&EVENT_KEYS, Level::Event)
     }
 
     #[tactic(auto, unfolding(crate::specs::Keys::event))]

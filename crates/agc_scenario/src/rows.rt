@@ -1,8 +1,6 @@
 //! The table of keys of a scenario: each with the kind of its value, and whether it is required.
 use agc_clock::LAST_TIME;
-use agc_document::rows::{
-    ACTION, ALLOWANCE, AT, BANK, GROUP, JOB, KEY, LIMIT, LISTING, PHASE, POWER, RADAR, SETS,
-};
+use agc_document::rows::{ALLOWANCE, AT, KEY, LIMIT, NAME, POWER, RADAR, SETS};
 use agc_document::{ANY, Key, KeyName, Kind, TextForm, TimeName};
 
 pub const SECONDS: Key = Key::Required(KeyName::Time(TimeName::Seconds), Kind::Integer(1, 86_400));
@@ -16,9 +14,9 @@ pub const SEED: Key = Key::Optional(
 
 pub const STEAL: Key = Key::Optional(KeyName::Time(TimeName::Steal), Kind::Integer(0, 100));
 
-pub const NAMED_TASKS: Key = Key::Optional(KeyName::Task, Kind::Tables(0, ANY));
+pub const NAMED_TASKS: Key = Key::Optional(KeyName::Task, Kind::OtherTables(0, ANY));
 
-pub const NAMED_PHASES: Key = Key::Optional(KeyName::Phase, Kind::Tables(0, ANY));
+pub const NAMED_PHASES: Key = Key::Optional(KeyName::Phase, Kind::OtherTables(0, ANY));
 
 pub const JOBS: Key = Key::Optional(KeyName::Job, Kind::Tables(0, 100));
 
@@ -41,14 +39,6 @@ pub const SCENARIO_KEYS: [Key; 14] = [
     JOBS,
     EVENTS,
 ];
-
-pub const NAME: Key = Key::Optional(KeyName::Time(TimeName::Name), Kind::Text(TextForm::Name));
-
-/// The keys of a task's row.
-pub const NAMED_TASK_KEYS: [Key; 4] = [AT, BANK, ACTION, NAME];
-
-/// The keys of a phase entry.
-pub const NAMED_PHASE_KEYS: [Key; 5] = [GROUP, PHASE, JOB, LISTING, NAME];
 
 /// A centisecond of a day.
 const TIME: Kind = Kind::Integer(0, LAST_TIME as u64);

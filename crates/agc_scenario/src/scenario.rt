@@ -13,8 +13,8 @@ use crate::keys::scenario_in;
 use crate::rows::SECONDS;
 use crate::texts::ScenarioTexts;
 use crate::timing::{Name, Timing};
-use crate::values::{can_all_be_shown, copy_names, timing_of};
-use agc_document::{Bench, BenchFault, Notes, Text, bench_from, table_of, value_of};
+use crate::values::timing_of;
+use agc_document::{Bench, BenchFault, Notes, Text, all_spelled, bench_from, table_of, value_of};
 use std::alloc::Global;
 use std::marker::Model;
 use toml::Table;
@@ -72,17 +72,14 @@ impl Scenario {
     }
 }
 
-/// Copies names. A fault `Line` if one can't be shown.
+/// The names that texts are. A fault `Line` if one can't be shown.
+#[tactic(auto, using(crate::proofs::Refusals::names_refused))]
 fn names_of(alloc: Global, names: &[Option<Text<'_>>]) -> Result<Vec<Name>, BenchFault>
     ensures found { IfOk result (λ v. (v.items ≡ names.now)
         × (list_all can_be_shown names.now ≡ true)) }
     ensures refused { IfErr result (RefusedLine (list_all can_be_shown names.now ≢ true)) }
 {
-    if !can_all_be_shown(names) {
-        return Err(BenchFault::Line);
-    }
-    let copied = copy_names(alloc, names)?;
-    Ok(copied)
+    all_spelled(alloc, names)
 }
 
 /// The scenario that numbers and texts spell; each text was checked when it was read.

@@ -17,7 +17,7 @@ use agc_clock::step_of;
 use agc_document::{BenchFault, FromText, Text, all_spelled, is_name, or_line};
 use agc_plan::Request;
 use agc_text::parse_address;
-use std::alloc::{AllocError, Global};
+use std::alloc::Global;
 
 /// Whether a request is a step of a job.
 fn is_step(request: &Request) -> bool
@@ -66,55 +66,23 @@ fn parse_requests(alloc: Global, texts: &[Text<'_>]) -> Result<Vec<Request>, Ben
     Ok(requests)
 }
 
-/// Whether a name can be shown, if it is there.
-fn can_be_shown(name: &Option<Text<'_>>) -> bool
-    ensures { result ≡ can_be_shown name.now }
-{
-    match name {
-        None => true,
-        Some(text) => is_name(text.as_str()),
-    }
-}
+impl<'a> FromText<Option<Text<'a>>> for Name {
+    ghost spelling = { λ n. n };
 
-/// Whether each name that is there can be shown.
-pub(crate) fn can_all_be_shown(names: &[Option<Text<'_>>]) -> bool
-    ensures { result ≡ list_all can_be_shown names.now }
-{
-    names.iter().all(|name| can_be_shown(name))
-}
+    ghost IsLawful = { λ n. can_be_shown n ≡ true };
 
-/// A name in memory of its own.
-fn copy_name(alloc: Global, name: &Option<Text<'_>>) -> Result<Name, AllocError>
-    ensures { IfOk result (λ n. n ≡ name.now) }
-{
-    match name {
-        None => Ok(Name::of(None)),
-        Some(text) => Ok(Name::of(Some(String::from_str(alloc, text.as_str())?))),
+    fn spelled_by(alloc: Global, name: &Option<Text<'a>>) -> Result<Name, BenchFault> {
+        match name {
+            None => Ok(Name::of(None)),
+            Some(text) => {
+                if !is_name(text.as_str()) {
+                    return Err(BenchFault::Line);
+                }
+                let own = String::from_str(alloc, text.as_str())?;
+                Ok(Name::of(Some(own)))
+            }
+        }
     }
-}
-
-/// Names in memory of their own.
-pub(crate) fn copy_names(alloc: Global, names: &[Option<Text<'_>>]) -> Result<Vec<Name>, AllocError>
-    ensures { IfOk result (λ v. v.items ≡ names.now) }
-{
-    let mut all: Vec<Name> = Vec::new(alloc);
-    for name in names {
-        let one = copy_name(alloc, name)?;
-        all.push(one)?;
-    }
-    Ok(all)
-}
-
-/// The name that a text is, if it is there. A fault `Line` if it can't be shown.
-fn name_of(alloc: Global, name: &Option<Text<'_>>) -> Result<Name, BenchFault>
-    ensures found { IfOk result (λ n. (n ≡ name.now) × (can_be_shown name.now ≡ true)) }
-    ensures refused { IfErr result (RefusedLine (can_be_shown name.now ≢ true)) }
-{
-    if !can_be_shown(name) {
-        return Err(BenchFault::Line);
-    }
-    let copy_name = copy_name(alloc, name)?;
-    Ok(copy_name)
 }
 
 impl<'a> FromText<JobTexts<'a>> for TimedJob {
@@ -125,7 +93,7 @@ impl<'a> FromText<JobTexts<'a>> for TimedJob {
     fn spelled_by(alloc: Global, texts: &JobTexts<'a>) -> Result<TimedJob, BenchFault> {
         let at = or_line(parse_address(texts.at.as_str()));
         let requests = parse_requests(alloc, texts.requests.as_slice());
-        let name = name_of(alloc, &texts.name);
+        let name = Name::spelled_by(alloc, &texts.name);
         match (at, requests, name) {
             (Ok(at), Ok(requests), Ok(name)) => Ok(TimedJob {
                 at,
@@ -149,8 +117,8 @@ impl<'a> FromText<EventTexts<'a>> for TimedEvent {
             alloc,
             texts.requests.as_slice(),
         );
-        let after = name_of(alloc, &texts.after);
-        let name = name_of(alloc, &texts.name);
+        let after = Name::spelled_by(alloc, &texts.after);
+        let name = Name::spelled_by(alloc, &texts.name);
         match (requests, after, name) {
             (Ok(requests), Ok(after), Ok(name)) => Ok(TimedEvent {
                 at: texts.at,
@@ -188,7 +156,7 @@ pub(crate) fn timing_of(alloc: Global, texts: TimingTexts<'_>) -> Result<Timing,
     ensures refused { IfErr result (RefusedLine
         ((t : Timed) → IsTimed t → texts.entry ≢ timing_texts t)) }
 {
-    let title = name_of(alloc, &texts.title);
+    let title = Name::spelled_by(alloc, &texts.title);
     let jobs = all_spelled(alloc, texts.jobs.as_slice());
     let events = events_of(alloc, texts.events.as_slice());
     match (title, jobs, events) {

@@ -67,7 +67,7 @@ fn put_json<W: Write>(writer: &mut W, text: &str) -> io::Result<()> {
     Ok(())
 }
 
-/// Writes a filling.
+/// Writes a field.
 fn put_field<W: Write>(writer: &mut W, field: Field<'_>) -> io::Result<()> {
     match field {
         Field::Text(text) => writer.write_all(text.as_bytes()),
@@ -85,15 +85,15 @@ fn put_field<W: Write>(writer: &mut W, field: Field<'_>) -> io::Result<()> {
 }
 
 impl<W: Write> TextWriter<W> {
-    /// A pen that has written nothing yet.
-    pub fn new(writer: W) -> TextWriter<W> {
+    /// Writes to this writer.
+    pub fn to(writer: W) -> TextWriter<W> {
         TextWriter {
             writer,
             failed: false,
         }
     }
 
-    /// Writes a filling, unless a write failed.
+    /// Writes a field, unless a write failed.
     pub fn add(&mut self, field: Field<'_>) {
         if !self.failed {
             self.failed = put_field(&mut self.writer, field).is_err();
@@ -105,13 +105,13 @@ impl<W: Write> TextWriter<W> {
         self.add(Field::Text(text));
     }
 
-    /// Writes a text, and a filling after it, up to the first write that fails.
+    /// Writes a text, and a field after it, up to the first write that fails.
     pub fn fill(&mut self, text: &str, field: Field<'_>) {
         self.text(text);
         self.add(field);
     }
 
-    /// Writes a text. Each gap `{}` in it is replaced by the next filling. It stops at the first
+    /// Writes a text. Each gap `{}` in it is replaced by the next field. It stops at the first
     /// write that fails.
     pub fn put(&mut self, text: &str, fields: &[Field<'_>]) {
         let mut rest = text;
