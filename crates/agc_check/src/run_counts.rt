@@ -9,7 +9,7 @@ ghost use Rattle.agc_session.specs.Runs.{script_machine};
 use agc_machine::{Machine, Refusal};
 use agc_plan::{Alarm, Reply, Request};
 use agc_run::{PendingRequests, Run, Subject};
-use agc_session::script_machine;
+use agc_session::{Walk, script_machine};
 use std::alloc::{AllocError, Global};
 
 /// The most requests that are run: more than a text has room to write out.
@@ -106,7 +106,8 @@ pub(crate) fn run_requests(
         Ok(machine) => machine,
         Err(_fault) => return Err(AllocError),
     };
-    let mut run = Run::new(machine, PendingRequests::of_script(requests));
+    let pending = PendingRequests::of_walk(Walk::of_script(requests));
+    let mut run = Run::new(machine, pending);
     let ran = run_most(&mut run);
     Ok((run.into_machine(), ran))
 }

@@ -17,7 +17,7 @@ use Rattle.agc_machine.specs.declared.answer.Refusal.{Refusal}
 use Rattle.agc_machine.specs.Machines.{Machined, after, alarm_with, answer_of, begins_with, refusal_of, served, stepped}
 use Rattle.agc_run.specs.Runs.{Pending, Pulls, asks_after, requests_in, to_ask}
 use Rattle.agc_run.specs.Subjects.{IsOf, machine_of, own_requests, requests_of}
-use Rattle.agc_run.specs.declared.pending_requests.Call.{Call}
+use Rattle.agc_session.specs.declared.source.PendingRequest.{PendingRequest}
 use Rattle.agc_run.specs.declared.subject.Subject.{Subject}
 use Rattle.agc_run.proofs.Following.{its_requests}
 use Rattle.agc_run.specs.Events.{scene_now}
@@ -415,25 +415,25 @@ none_yet start new time requests refusals longest number by peaks era =
     }
 
 -- the entries, with the first of the requests that are still to come
-pub made_more : (es : List Entry) (m : Machined) (time : ℕ) (old mid new : Pending) (call : Call) (now : Machined) (later : ℕ) (all : List Entry) → Pulls m old (Some call) mid → now ≡ after m call.request → new ≡ asks_after m mid call → later ≡ (entry_of m time call.request).time → es ++ entries m time (to_ask m old) ≡ all → (es ++ entry_of m time call.request ∷ []) ++ entries now later (to_ask now new) ≡ all
+pub made_more : (es : List Entry) (m : Machined) (time : ℕ) (old mid new : Pending) (call : PendingRequest) (now : Machined) (later : ℕ) (all : List Entry) → Pulls m old (Some call) mid → now ≡ after m call.request → new ≡ asks_after m mid call → later ≡ (entry_of m time call.request).time → es ++ entries m time (to_ask m old) ≡ all → (es ++ entry_of m time call.request ∷ []) ++ entries now later (to_ask now new) ≡ all
 made_more es m time old mid new call now later all pulls now_is new_is later_is before =
     let e : Entry = entry_of m time call.request in
     append_assoc es (e ∷ []) (entries now later (to_ask now new))
     ∙ ap (λ (x : Machined). es ++ e ∷ entries x later (to_ask x new)) now_is
     ∙ ap (λ (p : Pending). es ++ e ∷ entries (after m call.request) later (to_ask (after m call.request) p)) new_is
     ∙ ap (λ (t : ℕ). es ++ e ∷ entries (after m call.request) t (to_ask (after m call.request) (asks_after m mid call))) later_is
-    ∙ ap (λ (l : List Call). es ++ entries m time (requests_in l)) (sym pulls)
+    ∙ ap (λ (l : List PendingRequest). es ++ entries m time (requests_in l)) (sym pulls)
     ∙ before
 
 pub all_made : (es : List Entry) (m : Machined) (time : ℕ) (old mid : Pending) (all : List Entry) → Pulls m old None mid → es ++ entries m time (to_ask m old) ≡ all → es ≡ all
 all_made es m time old mid all pulls before =
-    sym (append-nil es) ∙ ap (λ (l : List Call). es ++ entries m time (requests_in l)) (sym pulls) ∙ before
+    sym (append-nil es) ∙ ap (λ (l : List PendingRequest). es ++ entries m time (requests_in l)) (sym pulls) ∙ before
 
-pub asked_once : (m : Machined) (old mid new : Pending) (call : Call) (now : Machined) → Pulls m old (Some call) mid → now ≡ after m call.request → new ≡ asks_after m mid call → fold after now (to_ask now new) ≡ fold after m (to_ask m old)
+pub asked_once : (m : Machined) (old mid new : Pending) (call : PendingRequest) (now : Machined) → Pulls m old (Some call) mid → now ≡ after m call.request → new ≡ asks_after m mid call → fold after now (to_ask now new) ≡ fold after m (to_ask m old)
 asked_once m old mid new call now pulls now_is new_is =
     ap (λ (x : Machined). fold after x (to_ask x new)) now_is
     ∙ ap (λ (p : Pending). fold after (after m call.request) (to_ask (after m call.request) p)) new_is
-    ∙ ap (λ (l : List Call). fold after m (requests_in l)) (sym pulls)
+    ∙ ap (λ (l : List PendingRequest). fold after m (requests_in l)) (sym pulls)
 
 -- a run of which it is known what is asked
 pub of_all : (m n : Machined) (pending : Pending) (all : Machined → List Request) (s : RunStatistics) → m ≡ n → ((k : Machined) → to_ask k pending ≡ all k) → IsRunStatistics m (to_ask m pending) s → IsRunStatistics n (all n) s

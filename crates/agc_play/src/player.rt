@@ -9,8 +9,8 @@ use agc_exec::Seat;
 use agc_machine::{Machine, Refusal};
 use agc_phase::code_word;
 use agc_plan::{Reply, Request};
-use agc_run::{Event, ObservedMachine, ObservedRun, PendingRequests, Scene, Source};
-use agc_session::{RunFault, machine_of};
+use agc_run::{Event, ObservedRun, PendingRequests, Run, Scene};
+use agc_session::{RunFault, Source, Walk, machine_of};
 use agc_table::TableForm;
 use agc_text::Field::{Number, Octal, Priority, Text};
 use agc_text::{Buffer, Output};
@@ -45,7 +45,7 @@ struct LastRequest {
 /// machine.
 #[derive(Drop)]
 pub(crate) struct Player {
-    watched: ObservedMachine,
+    run: ObservedRun<'static>,
     rows: Rows,
     last: LastRequest,
 }
@@ -55,7 +55,7 @@ impl Model for Player {
 
     ghost Value = { Watching };
 
-    ghost view = { λ p. p.watched };
+    ghost view = { λ p. p.run.watching };
 }
 
 /// The outcome of an event, beside its row.
@@ -78,9 +78,17 @@ fn last_of(event: &Event) -> LastRequest {
     }
 }
 
+/// A run of which nothing is pending.
+fn run_by_hand(machine: Machine) -> ObservedRun<'static>
+    ensures { result.watching ≡ watching_from machine }
+{
+    let none = PendingRequests::of_walk(Walk::of_script(&[]));
+    ObservedRun::new(Run::new(machine, none))
+}
+
 /// A new machine after these requests, and the last of them.
-fn replay(machine: Machine, requests: &[Request]) -> (ObservedMachine, LastRequest)
-    ensures { result.0 ≡ fold watched (watching_from machine) requests.now }
+fn replay(machine: Machine, requests: &[Request]) -> (ObservedRun<'static>, LastRequest)
+    ensures { result.0.watching ≡ fold watched (watching_from machine) requests.now }
 {
     let mut last = LastRequest {
         number: 0,
@@ -88,11 +96,11 @@ fn replay(machine: Machine, requests: &[Request]) -> (ObservedMachine, LastReque
         total: 0,
         effect: Effect::Served,
     };
-    let mut run = ObservedRun::new(machine, PendingRequests::of_script(requests));
-    while let Some((_source, event)) = run.next() {
-        last = last_of(&event);
+    let mut run = run_by_hand(machine);
+    for request in requests {
+        last = last_of(&run.ask(request));
     }
-    (run.into_watched(), last)
+    (run, last)
 }
 
 /// Adds the job of a core set.
@@ -209,12 +217,8 @@ impl Player {
     {
         let rows = rows_of(alloc, folds)?;
         let machine = machine_of(alloc, bench)?;
-        let (watched, last) = replay(machine, requests);
-        Ok(Player {
-            watched,
-            rows,
-            last,
-        })
+        let (run, last) = replay(machine, requests);
+        Ok(Player { run, rows, last })
     }
 
     /// Adds the heading, and what came of power-up, if the bench has phase words.
@@ -225,7 +229,7 @@ impl Player {
     pub(crate) fn put_heading(&mut self, alloc: Global, bench: &Bench) -> Result<(), RunFault>
         ensures { self.new ≡ self.old }
     {
-        let first = ObservedMachine::new(machine_of(alloc, bench)?);
+        let first = run_by_hand(machine_of(alloc, bench)?);
         self.rows.begin(&first, bench);
         Ok(())
     }
@@ -246,11 +250,10 @@ impl Player {
     pub(crate) fn ask(&mut self, request: &Request, is_told: bool)
         ensures { self.new ≡ watched self.old request.now }
     {
-        let event = self.watched.ask(request);
+        let event = self.run.ask(request);
         self.last = last_of(&event);
         if is_told || !matches!(self.last.effect, Effect::Quiet) {
-            let source = Source::Bench(agc_session::Source::Script);
-            self.rows.add(&self.watched, source, &event);
+            self.rows.add(&self.run, Source::Script, &event);
         }
     }
 
@@ -271,11 +274,11 @@ impl Player {
             "after request {}: time {} of the era, {} in all\n",
             &[Number(number), Number(time), Number(total)],
         );
-        let scene = self.watched.scene();
+        let scene = self.run.scene();
         put_jobs(buffer, &scene);
         put_free(buffer, &scene);
         put_rest(buffer, &scene);
-        let stored = u64::from(self.watched.machine().log_len());
+        let stored = u64::from(self.run.machine().log_len());
         let limit = u64::from(bench.limit().get());
         buffer.put(
             "    the log has {} of {} requests\n",

@@ -4,7 +4,8 @@ use Rattle.std.specs.List.{fold}
 use Rattle.agc_machine.specs.Machines.{Machined, after}
 use Rattle.agc_plan.specs.declared.request.Request.{Request}
 use Rattle.agc_run.specs.Events.{Watching, watched, watching_from}
-use Rattle.agc_run.specs.Runs.{Pending, all_to_ask, requests_in, script_asks, to_ask}
+use Rattle.agc_run.specs.Runs.{Pending, all_to_ask, requests_in, to_ask}
+use Rattle.agc_session.specs.Pieces.{asks_in, script_piece}
 use Rattle.agc_run.specs.Subjects.{IsOf, requests_of}
 use Rattle.agc_run.specs.declared.subject.Subject.{Subject}
 use Rattle.agc_run.specs.declared.subject.Subject.TheVariants.{Bench, Scenario}
@@ -26,5 +27,5 @@ pub its_requests : (subject : Subject) (pending : Pending) → IsOf subject pend
 its_requests (Bench bench) pending all m = ap requests_in (all m) ∙ bench_asked bench.now
 its_requests (Scenario scenario) pending all m = ap requests_in (all m)
 
-pub script_requests : (script : List Request) (pending : Pending) → ((m : Machined) → all_to_ask m pending ≡ script_asks script) → (m : Machined) → to_ask m pending ≡ script
+pub script_requests : (script : List Request) (pending : Pending) → ((m : Machined) → all_to_ask m pending ≡ asks_in (script_piece script)) → (m : Machined) → to_ask m pending ≡ script
 script_requests script pending all m = ap requests_in (all m) ∙ source_asked Script script

@@ -1,5 +1,5 @@
 -- How a run comes to its end.
-use Rattle.std.proofs.Common.{◌≡◌, ℕ, Bool, cond, zero, suc, ◌+◌, ◌-◌, ◌*◌, List, [], ◌∷◌, ◌++◌, Option, Some, None, Result, refl, sym, ap, ◌∙◌, arith, subst, map, drop, replicate, append-nil, append_assoc}
+use Rattle.std.proofs.Common.{◌≡◌, ℕ, Bool, true, false, cond, zero, suc, ◌+◌, ◌-◌, ◌*◌, List, [], ◌∷◌, ◌++◌, Option, Some, None, Result, refl, sym, ap, ◌∙◌, arith, subst, map, drop, replicate, append-nil, append_assoc}
 use Rattle.std.specs.List.{fold, range_with_len}
 use Rattle.std.proofs.Math.Nat.{le_refl}
 use Rattle.std.proofs.lemmas.List.{append_cancel_right, drop-map}
@@ -9,10 +9,11 @@ use Rattle.agc_plan.specs.declared.reply.Reply.{Reply}
 use Rattle.agc_machine.specs.declared.answer.Refusal.{Refusal}
 use Rattle.agc_plan.specs.declared.request.Request.TheVariants.{Tick}
 use Rattle.agc_plan.specs.Jobs.{Jobs}
-use Rattle.agc_plan.specs.declared.request.Request.{Request}
 use Rattle.agc_machine.specs.Machines.{Machined, after, alarm_with, answer_of, plain_of}
 use Rattle.agc_clock.specs.declared.alarms.Alarms.{Alarms}
-use Rattle.agc_clock.specs.declared.asked.Asked.{Asked as TimeAsked}
+use Rattle.agc_clock.specs.declared.asked.Asked.{Asked}
+use Rattle.agc_clock.specs.declared.asked.Source.{Source as TimeSource}
+use Rattle.agc_clock.specs.declared.asked.Source.TheVariants as time
 use Rattle.agc_clock.specs.declared.timetable.Cost.{Cost}
 use Rattle.agc_clock.specs.Alarms.{came, none_came}
 use Rattle.agc_clock.specs.Clocks.{AsksNext, Clocked, Next, at_start, events_left, look_left, next_of, time_after, to_come, unless_asked}
@@ -25,20 +26,20 @@ use Rattle.agc_clock.specs.Timetables.{Schedule, share_at}
 use Rattle.agc_clock.proofs.Hearing.{nothing_moved}
 use Rattle.agc_clock.proofs.Scenarios.{no_tick_is_left}
 use Rattle.agc_scenario.specs.Scenarios.{Timed, TimedEvent, comes_by, counted_by, event_of, first_of, last_time_of, schedule_of, seed_of}
-use Rattle.agc_session.specs.declared.source.Source.{Source as BenchSource}
-use Rattle.agc_run.specs.declared.pending_requests.Call.{Call}
+use Rattle.agc_session.specs.Pieces.{Walked, is_in_time, rest}
+use Rattle.agc_session.specs.declared.source.PendingRequest.{PendingRequest}
 use Rattle.agc_run.specs.Going.{Going, alarms_after, centisecond_lived, going_at, lived_at, scenario_run, time_lived}
-use Rattle.agc_run.specs.Runs.{Pending, Pulls, Requested, alarms_with, all_to_ask, asks_after, by_source, clock_after, clock_asks, in_time, left_now, now_lived, requests_in, rest, time_asks}
+use Rattle.agc_run.specs.Runs.{Pending, Pulls, alarms_with, all_to_ask, asks_after, clock_after, clock_asks, in_time, left_now, now_lived, requests_in, source_in_time, time_asks}
 
 -- a request of a run, where this was counted before it
-abbrev asked_at : ℕ → TimeAsked → Counts → Going → Going
+abbrev asked_at : ℕ → Asked → Counts → Going → Going
 asked_at time q counts g = record { at = served by_machine q counts g.at; alarms = alarms_after time g.at.state (Some q) g.alarms }
 
 abbrev counted_at : Counts → Going → Going
 counted_at counts g = record { at = record g.at { counts = counts }; alarms = g.alarms }
 
 record Leads (costs : List Cost) (time : ℕ) (g end : Going) (n : Next) : Type 0 where
-  pending : (q : TimeAsked) → n.asked ≡ Some q → end ≡ fold (lived_at costs time) (asked_at time q n.counts g) n.behind
+  pending : (q : Asked) → n.asked ≡ Some q → end ≡ fold (lived_at costs time) (asked_at time q n.counts g) n.behind
   ends : n.asked ≡ None → end ≡ counted_at n.counts g
 
 -- an instant, by what came of it
@@ -56,9 +57,9 @@ leads costs time g (instant ∷ behind) =
       goal_of : Passed → Type 0
       goal_of p = Leads costs time g (fold (lived_at costs time) (did_at time p g) behind) (unless_asked p behind (next_of costs (by_machine.jobs g.at.state) behind))
 
-      each : (o : Option TimeAsked) (counts : Counts) → Leads costs time (counted_at counts g) (fold (lived_at costs time) (counted_at counts g) behind) (next_of costs (by_machine.jobs g.at.state) behind counts) → goal_of (record { asked = o; counts = counts })
+      each : (o : Option Asked) (counts : Counts) → Leads costs time (counted_at counts g) (fold (lived_at costs time) (counted_at counts g) behind) (next_of costs (by_machine.jobs g.at.state) behind counts) → goal_of (record { asked = o; counts = counts })
       each (Some a) counts rest = record {
-        pending = λ q some. ap (λ (x : TimeAsked). fold (lived_at costs time) (asked_at time x counts g) behind) (same_Some a q some);
+        pending = λ q some. ap (λ (x : Asked). fold (lived_at costs time) (asked_at time x counts g) behind) (same_Some a q some);
         ends = λ none. absurd (cc);
       }
       each None counts rest = record {
@@ -67,13 +68,13 @@ leads costs time g (instant ∷ behind) =
       }
 
 -- the first request of instants is that of the first of them, or else of the others
-next_first : (costs : List Cost) (jobs : Jobs) (xs ys : List Instant) (counts : Counts) (q : TimeAsked) → (next_of costs jobs xs counts).asked ≡ Some q → next_of costs jobs (xs ++ ys) counts ≡ record { asked = Some q; behind = (next_of costs jobs xs counts).behind ++ ys; counts = (next_of costs jobs xs counts).counts }
+next_first : (costs : List Cost) (jobs : Jobs) (xs ys : List Instant) (counts : Counts) (q : Asked) → (next_of costs jobs xs counts).asked ≡ Some q → next_of costs jobs (xs ++ ys) counts ≡ record { asked = Some q; behind = (next_of costs jobs xs counts).behind ++ ys; counts = (next_of costs jobs xs counts).counts }
 next_first costs jobs [] ys counts q some = absurd (cc)
 next_first costs jobs (x ∷ xs) ys counts q some =
     let did = passed costs jobs x counts in
     each did.asked did.counts (λ k more. next_first costs jobs xs ys k q more) some where
-      each : (o : Option TimeAsked) (k : Counts) → ((l : Counts) → (next_of costs jobs xs l).asked ≡ Some q → next_of costs jobs (xs ++ ys) l ≡ record { asked = Some q; behind = (next_of costs jobs xs l).behind ++ ys; counts = (next_of costs jobs xs l).counts }) → (unless_asked (record { asked = o; counts = k }) xs (next_of costs jobs xs)).asked ≡ Some q → unless_asked (record { asked = o; counts = k }) (xs ++ ys) (next_of costs jobs (xs ++ ys)) ≡ record { asked = Some q; behind = (unless_asked (record { asked = o; counts = k }) xs (next_of costs jobs xs)).behind ++ ys; counts = (unless_asked (record { asked = o; counts = k }) xs (next_of costs jobs xs)).counts }
-      each (Some a) k rest some = ap (λ (z : TimeAsked). record { asked = Some z; behind = xs ++ ys; counts = k }) (same_Some a q some)
+      each : (o : Option Asked) (k : Counts) → ((l : Counts) → (next_of costs jobs xs l).asked ≡ Some q → next_of costs jobs (xs ++ ys) l ≡ record { asked = Some q; behind = (next_of costs jobs xs l).behind ++ ys; counts = (next_of costs jobs xs l).counts }) → (unless_asked (record { asked = o; counts = k }) xs (next_of costs jobs xs)).asked ≡ Some q → unless_asked (record { asked = o; counts = k }) (xs ++ ys) (next_of costs jobs (xs ++ ys)) ≡ record { asked = Some q; behind = (unless_asked (record { asked = o; counts = k }) xs (next_of costs jobs xs)).behind ++ ys; counts = (unless_asked (record { asked = o; counts = k }) xs (next_of costs jobs xs)).counts }
+      each (Some a) k rest some = ap (λ (z : Asked). record { asked = Some z; behind = xs ++ ys; counts = k }) (same_Some a q some)
       each None k rest some = rest k some
 
 next_later : (costs : List Cost) (jobs : Jobs) (xs ys : List Instant) (counts : Counts) → (next_of costs jobs xs counts).asked ≡ None → next_of costs jobs (xs ++ ys) counts ≡ next_of costs jobs ys (next_of costs jobs xs counts).counts
@@ -81,7 +82,7 @@ next_later costs jobs [] ys counts none = refl
 next_later costs jobs (x ∷ xs) ys counts none =
     let did = passed costs jobs x counts in
     each did.asked did.counts (λ k more. next_later costs jobs xs ys k more) none where
-      each : (o : Option TimeAsked) (k : Counts) → ((l : Counts) → (next_of costs jobs xs l).asked ≡ None → next_of costs jobs (xs ++ ys) l ≡ next_of costs jobs ys (next_of costs jobs xs l).counts) → (unless_asked (record { asked = o; counts = k }) xs (next_of costs jobs xs)).asked ≡ None → unless_asked (record { asked = o; counts = k }) (xs ++ ys) (next_of costs jobs (xs ++ ys)) ≡ next_of costs jobs ys (unless_asked (record { asked = o; counts = k }) xs (next_of costs jobs xs)).counts
+      each : (o : Option Asked) (k : Counts) → ((l : Counts) → (next_of costs jobs xs l).asked ≡ None → next_of costs jobs (xs ++ ys) l ≡ next_of costs jobs ys (next_of costs jobs xs l).counts) → (unless_asked (record { asked = o; counts = k }) xs (next_of costs jobs xs)).asked ≡ None → unless_asked (record { asked = o; counts = k }) (xs ++ ys) (next_of costs jobs (xs ++ ys)) ≡ next_of costs jobs ys (unless_asked (record { asked = o; counts = k }) xs (next_of costs jobs xs)).counts
       each (Some a) k rest none = absurd (cc)
       each None k rest none = rest k none
 
@@ -127,24 +128,24 @@ same_now t alarms alarm clock =
     ∙ ap (λ (l : List Event). events_left clock.time clock.event clock.asked l ++ more) (sym (drop-map (event_of lasts alarms) clock.event t.events))
 
 -- what was asked before stands ahead, and changes nothing else
-abbrev ahead : List TimeAsked → Going → Going
+abbrev ahead : List Asked → Going → Going
 ahead qs g = record { at = record g.at { asked = qs ++ g.at.asked }; alarms = g.alarms }
 
-ahead_lived : (qs : List TimeAsked) (costs : List Cost) (time : ℕ) (g : Going) (i : Instant) → lived_at costs time (ahead qs g) i ≡ ahead qs (lived_at costs time g i)
+ahead_lived : (qs : List Asked) (costs : List Cost) (time : ℕ) (g : Going) (i : Instant) → lived_at costs time (ahead qs g) i ≡ ahead qs (lived_at costs time g i)
 ahead_lived qs costs time g i = let did = passed costs (by_machine.jobs g.at.state) i g.at.counts in each did.asked did.counts where
-  each : (o : Option TimeAsked) (k : Counts) → did_at time (record { asked = o; counts = k }) (ahead qs g) ≡ ahead qs (did_at time (record { asked = o; counts = k }) g)
+  each : (o : Option Asked) (k : Counts) → did_at time (record { asked = o; counts = k }) (ahead qs g) ≡ ahead qs (did_at time (record { asked = o; counts = k }) g)
   each None k = refl
   each (Some q) k =
       let next = by_machine.next g.at.state q in
-      ap (λ (l : List TimeAsked). record { at = record { asked = l; state = next; counts = kept (by_machine.begins g.at.state q) (by_machine.jobs next) k }; alarms = alarms_after time g.at.state (Some q) g.alarms })
+      ap (λ (l : List Asked). record { at = record { asked = l; state = next; counts = kept (by_machine.begins g.at.state q) (by_machine.jobs next) k }; alarms = alarms_after time g.at.state (Some q) g.alarms })
       (append_assoc qs g.at.asked (q ∷ []))
 
-ahead_all : (qs : List TimeAsked) (costs : List Cost) (time : ℕ) (is : List Instant) (g : Going) → fold (lived_at costs time) (ahead qs g) is ≡ ahead qs (fold (lived_at costs time) g is)
+ahead_all : (qs : List Asked) (costs : List Cost) (time : ℕ) (is : List Instant) (g : Going) → fold (lived_at costs time) (ahead qs g) is ≡ ahead qs (fold (lived_at costs time) g is)
 ahead_all qs costs time [] g = refl
 ahead_all qs costs time (i ∷ is) g =
     ap (λ (x : Going). fold (lived_at costs time) x is) (ahead_lived qs costs time g i) ∙ ahead_all qs costs time is (lived_at costs time g i)
 
-ahead_long : (qs : List TimeAsked) (t : Timed) (times : List ℕ) (g : Going) → fold (centisecond_lived t) (ahead qs g) times ≡ ahead qs (fold (centisecond_lived t) g times)
+ahead_long : (qs : List Asked) (t : Timed) (times : List ℕ) (g : Going) → fold (centisecond_lived t) (ahead qs g) times ≡ ahead qs (fold (centisecond_lived t) g times)
 ahead_long qs t [] g = refl
 ahead_long qs t (time ∷ times) g =
     let table = schedule_of t g.alarms in
@@ -155,7 +156,7 @@ first_left : (time number : ℕ) (events : List Event) → events_left time numb
 first_left time number [] = refl
 first_left time number (event ∷ events) = append-nil (events_at time number (event ∷ events))
 
-pub listed_asks : (m : Machined) (b : Requested) (a : Alarms) (k : Clocked) (all : List Call) → rest b ≡ all → all_to_ask m (record { listed = b; timing = None; alarms = a; clock = k }) ≡ all
+pub listed_asks : (m : Machined) (b : Walked) (a : Alarms) (k : Clocked) (all : List PendingRequest) → rest b ≡ all → all_to_ask m (record { listed = b; timing = None; alarms = a; clock = k }) ≡ all
 unfolding all_to_ask
 listed_asks m b a k all is = append-nil (rest b) ∙ is
 
@@ -167,28 +168,28 @@ begun_now t m =
 all_of_it : (n : ℕ) → n - 0 ≡ n
 all_of_it n = omega arith
 
-pub time_left : (m : Machined) (b : Requested) (t : Timed) (a : Alarms) (k : Clocked) → rest b ≡ [] → a ≡ none_came → k ≡ at_start (seed_of t) → all_to_ask m (record { listed = b; timing = Some t; alarms = a; clock = k }) ≡ clock_asks t m
+pub time_left : (m : Machined) (b : Walked) (t : Timed) (a : Alarms) (k : Clocked) → rest b ≡ [] → a ≡ none_came → k ≡ at_start (seed_of t) → all_to_ask m (record { listed = b; timing = Some t; alarms = a; clock = k }) ≡ clock_asks t m
 unfolding all_to_ask scenario_run clock_asks
 time_left m b t a k none unheard start =
-    ap (λ (xs : List Call). xs ++ time_asks (Some t) a k (fold after m (requests_in xs))) none
+    ap (λ (xs : List PendingRequest). xs ++ time_asks (Some t) a k (fold after m (requests_in xs))) none
     ∙ ap (λ (x : Alarms). time_asks (Some t) x k m) unheard
     ∙ ap (λ (c : Clocked). time_asks (Some t) none_came c m) start
     ∙ ap (λ (g : Going). map in_time (time_lived t g 1 (t.seconds * 100 - 0)).at.asked) (begun_now t m)
     ∙ ap (λ (n : ℕ). map in_time (time_lived t (fold (lived_at (schedule_of t none_came).costs 0) (going_at (seed_of t) m) (events_at 0 0 (schedule_of t none_came).events)) 1 n).at.asked) (all_of_it (t.seconds * 100))
 
 -- a request that is listed
-pub listed_pulled : (m : Machined) (b c : Requested) (t : Option Timed) (a : Alarms) (k : Clocked) (s : BenchSource) (q : Request) → rest b ≡ by_source s q ∷ rest c → Pulls m (record { listed = b; timing = t; alarms = a; clock = k }) (Some (by_source s q)) (record { listed = c; timing = t; alarms = a; clock = k })
+pub listed_pulled : (m : Machined) (b c : Walked) (t : Option Timed) (a : Alarms) (k : Clocked) (q : PendingRequest) → is_in_time q.source ≡ false → rest b ≡ q ∷ rest c → Pulls m (record { listed = b; timing = t; alarms = a; clock = k }) (Some q) (record { listed = c; timing = t; alarms = a; clock = k })
 unfolding all_to_ask
-listed_pulled m b c t a k s q is = ap (λ (xs : List Call). xs ++ time_asks t a k (fold after m (requests_in xs))) is
+listed_pulled m b c t a k q un is = rw un (ap (λ (xs : List PendingRequest). xs ++ time_asks t a k (fold after m (requests_in xs))) is)
 
 -- nothing that is listed is left
-pub listed_over : (m : Machined) (b c : Requested) (t : Option Timed) (a : Alarms) (k : Clocked) (o : Option Call) (new : Pending) → rest b ≡ rest c → Pulls m (record { listed = c; timing = t; alarms = a; clock = k }) o new → Pulls m (record { listed = b; timing = t; alarms = a; clock = k }) o new
+pub listed_over : (m : Machined) (b c : Walked) (t : Option Timed) (a : Alarms) (k : Clocked) (o : Option PendingRequest) (new : Pending) → rest b ≡ rest c → Pulls m (record { listed = c; timing = t; alarms = a; clock = k }) o new → Pulls m (record { listed = b; timing = t; alarms = a; clock = k }) o new
 unfolding all_to_ask
-listed_over m b c t a k (Some asked) new is pulls = ap (λ (xs : List Call). xs ++ time_asks t a k (fold after m (requests_in xs))) is ∙ pulls
-listed_over m b c t a k None new is pulls = ap (λ (xs : List Call). xs ++ time_asks t a k (fold after m (requests_in xs))) is ∙ pulls
+listed_over m b c t a k (Some asked) new is pulls = ap (λ (xs : List PendingRequest). xs ++ time_asks t a k (fold after m (requests_in xs))) is ∙ pulls
+listed_over m b c t a k None new is pulls = ap (λ (xs : List PendingRequest). xs ++ time_asks t a k (fold after m (requests_in xs))) is ∙ pulls
 
 -- nothing is left, and no time passes
-pub untimed : (m : Machined) (b : Requested) (t : Option Timed) (a : Alarms) (k : Clocked) → t ≡ None → rest b ≡ [] → all_to_ask m (record { listed = b; timing = t; alarms = a; clock = k }) ≡ []
+pub untimed : (m : Machined) (b : Walked) (t : Option Timed) (a : Alarms) (k : Clocked) → t ≡ None → rest b ≡ [] → all_to_ask m (record { listed = b; timing = t; alarms = a; clock = k }) ≡ []
 unfolding all_to_ask
 untimed m b t a k none is = ap (λ (x : Option Timed). rest b ++ time_asks x a k (fold after m (requests_in (rest b)))) none ∙ append-nil (rest b) ∙ is
 
@@ -200,17 +201,17 @@ abbrev start_with : Machined → Counts → Alarms → Going
 start_with m counts a = record { at = record { asked = []; state = m; counts = counts }; alarms = a }
 
 -- a clock after a request
-abbrev then_with : Machined → TimeAsked → Clocked → Clocked
+abbrev then_with : Machined → Asked → Clocked → Clocked
 then_with m q n = record n { counts = kept (by_machine.begins m q) (by_machine.jobs (by_machine.next m q)) n.counts }
 
-abbrev alarms_then : Machined → TimeAsked → ℕ → Alarms → Alarms
+abbrev alarms_then : Machined → Asked → ℕ → Alarms → Alarms
 alarms_then m q time a = came (alarm_with (answer_of m q.request)) time a
 
 -- what is asked when this was asked, and these instants are left of the centisecond
-abbrev asked_with : Timed → Alarms → Machined → Counts → TimeAsked → Counts → List Instant → ℕ → ℕ → List Call
+abbrev asked_with : Timed → Alarms → Machined → Counts → Asked → Counts → List Instant → ℕ → ℕ → List PendingRequest
 asked_with t a m before q counts left time more = map in_time (time_lived t (fold (lived_at (schedule_of t a).costs time) (asked_at time q counts (start_with m before a)) left) (time + 1) more).at.asked
 
-goes_then : (t : Timed) (a : Alarms) (m : Machined) (before : Counts) (n : Clocked) (q : TimeAsked) (left : List Instant) → left_now (schedule_of t a) n ≡ left → asked_with t a m before q n.counts left n.time (t.seconds * 100 - n.time) ≡ in_time q ∷ time_asks (Some t) (alarms_then m q n.time a) (then_with m q n) (by_machine.next m q)
+goes_then : (t : Timed) (a : Alarms) (m : Machined) (before : Counts) (n : Clocked) (q : Asked) (left : List Instant) → left_now (schedule_of t a) n ≡ left → asked_with t a m before q n.counts left n.time (t.seconds * 100 - n.time) ≡ in_time q ∷ time_asks (Some t) (alarms_then m q n.time a) (then_with m q n) (by_machine.next m q)
 goes_then t a m before n q left is =
     let table = schedule_of t a in
     let told : Alarms = alarms_then m q n.time a in
@@ -225,7 +226,7 @@ goes_then t a m before n q left is =
     ∙ ap (λ (l : List Instant). in_time q ∷ map in_time (time_lived t (fold (lived_at table.costs n.time) begun l) (n.time + 1) more).at.asked) (sym same)
 
 -- the request comes in this centisecond
-asked_now : (t : Timed) (a : Alarms) (m : Machined) (k n : Clocked) (q : TimeAsked) → AsksNext (schedule_of t a) (jobs_with m) k (Some q) n → (next_of (schedule_of t a).costs (jobs_with m) (left_now (schedule_of t a) k) k.counts).asked ≡ Some q → time_asks (Some t) a k m ≡ in_time q ∷ time_asks (Some t) (alarms_then m q n.time a) (then_with m q n) (by_machine.next m q)
+asked_now : (t : Timed) (a : Alarms) (m : Machined) (k n : Clocked) (q : Asked) → AsksNext (schedule_of t a) (jobs_with m) k (Some q) n → (next_of (schedule_of t a).costs (jobs_with m) (left_now (schedule_of t a) k) k.counts).asked ≡ Some q → time_asks (Some t) a k m ≡ in_time q ∷ time_asks (Some t) (alarms_then m q n.time a) (then_with m q n) (by_machine.next m q)
 asked_now t a m k n q pending some =
     let table = schedule_of t a in
     let jobs : Jobs = jobs_with m in
@@ -274,27 +275,27 @@ asks_over t a m k none =
     let table = schedule_of t a in
     ap (λ (g : Going). map in_time (time_lived t g (k.time + 1) (t.seconds * 100 - k.time)).at.asked) ((leads table.costs k.time (start_with m k.counts a) (left_now table k)).ends none)
 
-asked_later : (t : Timed) (a : Alarms) (m : Machined) (k n : Clocked) (q : TimeAsked) (more : ℕ) → AsksNext (schedule_of t a) (jobs_with m) k (Some q) n → IsOver t a m k → t.seconds * 100 - k.time ≡ suc more → time_asks (Some t) a k m ≡ in_time q ∷ time_asks (Some t) (alarms_then m q n.time a) (then_with m q n) (by_machine.next m q)
+asked_later : (t : Timed) (a : Alarms) (m : Machined) (k n : Clocked) (q : Asked) (more : ℕ) → AsksNext (schedule_of t a) (jobs_with m) k (Some q) n → IsOver t a m k → t.seconds * 100 - k.time ≡ suc more → time_asks (Some t) a k m ≡ in_time q ∷ time_asks (Some t) (alarms_then m q n.time a) (then_with m q n) (by_machine.next m q)
 asked_later t a m k n q more pending none is =
     let table = schedule_of t a in
     let counts : Counts = counts_over t a m k in
-    let tick : TimeAsked = by_clock Tick in
+    let tick : Asked = by_clock Tick in
     let all : next_of table.costs (jobs_with m) (to_come table k) k.counts ≡ ticks_next table k.time more counts = next_over t a m k none ∙ tick_next table (jobs_with m) k.time more (table.lasts - k.time) counts is in
     let its : q ≡ tick = same_Some q tick (pending.asked_is ∙ ap (λ (x : Next). x.asked) all) in
-    let time : n.time ≡ k.time + 1 = pending.time_is ∙ ap (λ (x : TimeAsked). time_after k.time (Some x)) its in
+    let time : n.time ≡ k.time + 1 = pending.time_is ∙ ap (λ (x : Asked). time_after k.time (Some x)) its in
     let left_then : t.seconds * 100 - n.time ≡ more = omega (arith, is, time) in
     let left : left_now table n ≡ rest_of table (k.time + 1) = append_cancel_right (left_now table n) (rest_of table (k.time + 1)) (centiseconds table (k.time + 1 + 1) more)
     (ap (λ (x : ℕ). left_now table n ++ centiseconds table (x + 1) more) (sym time) ∙ ap (λ (x : ℕ). left_now table n ++ centiseconds table (n.time + 1) x) (sym left_then) ∙ sym (two_parts table n) ∙ pending.to_come_is ∙ ap (λ (x : Next). x.behind) all) in
     let counted : counts ≡ n.counts = sym (pending.counts_is ∙ ap (λ (x : Next). x.counts) all) in
     asks_over t a m k none
     ∙ ap (λ (x : ℕ). map in_time (time_lived t (start_with m counts a) (k.time + 1) x).at.asked) is
-    ∙ ap (λ (x : TimeAsked). asked_with t a m counts x counts (rest_of table (k.time + 1)) (k.time + 1) more) (sym its)
+    ∙ ap (λ (x : Asked). asked_with t a m counts x counts (rest_of table (k.time + 1)) (k.time + 1) more) (sym its)
     ∙ ap (λ (x : ℕ). asked_with t a m counts q counts (rest_of table (k.time + 1)) x more) (sym time)
     ∙ ap (λ (x : ℕ). asked_with t a m counts q counts (rest_of table (k.time + 1)) n.time x) (sym left_then)
     ∙ ap (λ (c : Counts). asked_with t a m counts q c (rest_of table (k.time + 1)) n.time (t.seconds * 100 - n.time)) counted
     ∙ goes_then t a m counts n q (rest_of table (k.time + 1)) left
 
-pulled_time : (t : Timed) (a : Alarms) (m : Machined) (k n : Clocked) (q : TimeAsked) → AsksNext (schedule_of t a) (jobs_with m) k (Some q) n → time_asks (Some t) a k m ≡ in_time q ∷ time_asks (Some t) (alarms_then m q n.time a) (then_with m q n) (by_machine.next m q)
+pulled_time : (t : Timed) (a : Alarms) (m : Machined) (k n : Clocked) (q : Asked) → AsksNext (schedule_of t a) (jobs_with m) k (Some q) n → time_asks (Some t) a k m ≡ in_time q ∷ time_asks (Some t) (alarms_then m q n.time a) (then_with m q n) (by_machine.next m q)
 pulled_time t a m k n q pending = go here.asked refl where
   table : Schedule
   table = schedule_of t a
@@ -306,10 +307,10 @@ pulled_time t a m k n q pending = go here.asked refl where
   later none zero is = absurd (let no : Some q ≡ None = pending.asked_is ∙ ap (λ (x : Next). x.asked) (next_over t a m k none) ∙ none_next table (jobs_with m) k.time (table.lasts - k.time) (counts_over t a m k) is in cc)
   later none (suc more) is = asked_later t a m k n q more pending none is
 
-  go : (o : Option TimeAsked) → here.asked ≡ o → time_asks (Some t) a k m ≡ in_time q ∷ time_asks (Some t) (alarms_then m q n.time a) (then_with m q n) (by_machine.next m q)
+  go : (o : Option Asked) → here.asked ≡ o → time_asks (Some t) a k m ≡ in_time q ∷ time_asks (Some t) (alarms_then m q n.time a) (then_with m q n) (by_machine.next m q)
   go (Some p) some =
       let its : q ≡ p = same_Some q p (pending.asked_is ∙ ap (λ (l : List Instant). (next_of table.costs (jobs_with m) l k.counts).asked) (two_parts table k) ∙ ap (λ (x : Next). x.asked) (next_first table.costs (jobs_with m) (left_now table k) (later_on table k.time) k.counts p some)) in
-      asked_now t a m k n q pending (some ∙ ap (λ (x : TimeAsked). Some x) (sym its))
+      asked_now t a m k n q pending (some ∙ ap (λ (x : Asked). Some x) (sym its))
   go None none = later none (t.seconds * 100 - k.time) refl
 
 over_time : (t : Timed) (a : Alarms) (m : Machined) (k n : Clocked) → AsksNext (schedule_of t a) (jobs_with m) k None n → time_asks (Some t) a k m ≡ []
@@ -324,38 +325,42 @@ over_time t a m k n pending = go here.asked refl where
   later none zero is = asks_over t a m k none ∙ ap (λ (x : ℕ). map in_time (time_lived t (start_with m (counts_over t a m k) a) (k.time + 1) x).at.asked) is
   later none (suc more) is = absurd (let no : None ≡ Some (by_clock Tick) = pending.asked_is ∙ ap (λ (x : Next). x.asked) (next_over t a m k none ∙ tick_next table (jobs_with m) k.time more (table.lasts - k.time) (counts_over t a m k) is) in cc)
 
-  go : (o : Option TimeAsked) → here.asked ≡ o → time_asks (Some t) a k m ≡ []
+  go : (o : Option Asked) → here.asked ≡ o → time_asks (Some t) a k m ≡ []
   go (Some p) some = absurd (let no : None ≡ Some p = pending.asked_is ∙ ap (λ (l : List Instant). (next_of table.costs (jobs_with m) l k.counts).asked) (two_parts table k) ∙ ap (λ (x : Next). x.asked) (next_first table.costs (jobs_with m) (left_now table k) (later_on table k.time) k.counts p some) in cc)
   go None none = later none (t.seconds * 100 - k.time) refl
 
 -- the time is over
-over_at : (m : Machined) (b : Requested) (t : Timed) (a : Alarms) (k n : Clocked) → rest b ≡ [] → AsksNext (schedule_of t a) (jobs_with m) k None n → all_to_ask m (record { listed = b; timing = Some t; alarms = a; clock = k }) ≡ []
+over_at : (m : Machined) (b : Walked) (t : Timed) (a : Alarms) (k n : Clocked) → rest b ≡ [] → AsksNext (schedule_of t a) (jobs_with m) k None n → all_to_ask m (record { listed = b; timing = Some t; alarms = a; clock = k }) ≡ []
 unfolding all_to_ask
 over_at m b t a k n is pending =
-    ap (λ (xs : List Call). xs ++ time_asks (Some t) a k (fold after m (requests_in xs))) is ∙ over_time t a m k n pending
+    ap (λ (xs : List PendingRequest). xs ++ time_asks (Some t) a k (fold after m (requests_in xs))) is ∙ over_time t a m k n pending
+
+from_time : (s : TimeSource) → is_in_time (source_in_time s) ≡ true
+from_time time.Clock = refl
+from_time (time.Event event) = refl
 
 -- a request of the clock
-pulled_at : (m : Machined) (b : Requested) (t : Timed) (a : Alarms) (k n : Clocked) (q : TimeAsked) → rest b ≡ [] → AsksNext (schedule_of t a) (jobs_with m) k (Some q) n → Pulls m (record { listed = b; timing = Some t; alarms = a; clock = k }) (Some (in_time q)) (record { listed = b; timing = Some t; alarms = a; clock = n })
+pulled_at : (m : Machined) (b : Walked) (t : Timed) (a : Alarms) (k n : Clocked) (q : Asked) → rest b ≡ [] → AsksNext (schedule_of t a) (jobs_with m) k (Some q) n → Pulls m (record { listed = b; timing = Some t; alarms = a; clock = k }) (Some (in_time q)) (record { listed = b; timing = Some t; alarms = a; clock = n })
 unfolding all_to_ask
 pulled_at m b t a k n q is pending =
     let told : Alarms = alarms_then m q n.time a in
     let then : Clocked = then_with m q n in
-    ap (λ (xs : List Call). xs ++ time_asks (Some t) a k (fold after m (requests_in xs))) is
+    rw (from_time q.source) (ap (λ (xs : List PendingRequest). xs ++ time_asks (Some t) a k (fold after m (requests_in xs))) is
     ∙ pulled_time t a m k n q pending
-    ∙ ap (λ (xs : List Call). in_time q ∷ (xs ++ time_asks (Some t) told then (fold after (by_machine.next m q) (requests_in xs)))) (sym is)
+    ∙ ap (λ (xs : List PendingRequest). in_time q ∷ (xs ++ time_asks (Some t) told then (fold after (by_machine.next m q) (requests_in xs)))) (sym is))
 
-pub time_over : (m : Machined) (b : Requested) (o : Option Timed) (t : Timed) (a : Alarms) (j : Jobs) (k n : Clocked) → o ≡ Some t → j ≡ (plain_of m).work.jobs → rest b ≡ [] → AsksNext (schedule_of t a) j k None n → all_to_ask m (record { listed = b; timing = o; alarms = a; clock = k }) ≡ []
+pub time_over : (m : Machined) (b : Walked) (o : Option Timed) (t : Timed) (a : Alarms) (j : Jobs) (k n : Clocked) → o ≡ Some t → j ≡ (plain_of m).work.jobs → rest b ≡ [] → AsksNext (schedule_of t a) j k None n → all_to_ask m (record { listed = b; timing = o; alarms = a; clock = k }) ≡ []
 time_over m b o t a j k n some same is pending =
     ap (λ (x : Option Timed). all_to_ask m (record { listed = b; timing = x; alarms = a; clock = k })) some
     ∙ over_at m b t a k n is (subst (λ (x : Jobs). AsksNext (schedule_of t a) x k None n) same pending)
 
-pub time_pulled : (m : Machined) (b : Requested) (o : Option Timed) (t : Timed) (a : Alarms) (j : Jobs) (k n : Clocked) (q : TimeAsked) → o ≡ Some t → j ≡ (plain_of m).work.jobs → rest b ≡ [] → AsksNext (schedule_of t a) j k (Some q) n → Pulls m (record { listed = b; timing = o; alarms = a; clock = k }) (Some (in_time q)) (record { listed = b; timing = o; alarms = a; clock = n })
+pub time_pulled : (m : Machined) (b : Walked) (o : Option Timed) (t : Timed) (a : Alarms) (j : Jobs) (k n : Clocked) (q : Asked) → o ≡ Some t → j ≡ (plain_of m).work.jobs → rest b ≡ [] → AsksNext (schedule_of t a) j k (Some q) n → Pulls m (record { listed = b; timing = o; alarms = a; clock = k }) (Some (in_time q)) (record { listed = b; timing = o; alarms = a; clock = n })
 time_pulled m b o t a j k n q some same is pending =
     subst (λ (x : Option Timed). Pulls m (record { listed = b; timing = x; alarms = a; clock = k }) (Some (in_time q)) (record { listed = b; timing = x; alarms = a; clock = n })) (sym some)
     (pulled_at m b t a k n q is (subst (λ (x : Jobs). AsksNext (schedule_of t a) x k (Some q) n) same pending))
 
 -- one was asked of a machine, and the clock was told
-pub told_all : (m n : Machined) (answer : Result Reply Refusal) (j : Jobs) (pending then : Pending) (asked : Call) → n ≡ after m asked.request → answer ≡ answer_of m asked.request → j ≡ (plain_of n).work.jobs → then ≡ record pending { alarms = alarms_with asked.source (alarm_with answer) pending.clock.time pending.alarms; clock = clock_after asked.source (begins_with answer) j pending.clock } → all_to_ask n then ≡ all_to_ask (after m asked.request) (asks_after m pending asked)
+pub told_all : (m n : Machined) (answer : Result Reply Refusal) (j : Jobs) (pending then : Pending) (asked : PendingRequest) → n ≡ after m asked.request → answer ≡ answer_of m asked.request → j ≡ (plain_of n).work.jobs → then ≡ record pending { alarms = alarms_with asked.source (alarm_with answer) pending.clock.time pending.alarms; clock = clock_after asked.source (begins_with answer) j pending.clock } → all_to_ask n then ≡ all_to_ask (after m asked.request) (asks_after m pending asked)
 told_all m n answer j pending then asked is same jobs told =
     let rest = λ (x : Result Reply Refusal) (l : Jobs). all_to_ask (after m asked.request) (record pending { alarms = alarms_with asked.source (alarm_with x) pending.clock.time pending.alarms; clock = clock_after asked.source (begins_with x) l pending.clock }) in
     ap (λ (x : Machined). all_to_ask x then) is ∙ ap (all_to_ask (after m asked.request)) told

@@ -2,7 +2,6 @@
 use Rattle.std.proofs.Common.{◌≡◌, ℕ, Bool, true, false, if◌then◌else◌, List, [], ◌∷◌, ◌++◌, Option, Some, None, Result, Ok, Err, refl, sym, ap, ◌∙◌}
 use Rattle.std.specs.Option.{option_map_or}
 use Rattle.std.specs.Prelude.{◌||◌, is_some, IfOk}
-use Rattle.std.specs.List.{fold}
 use Rattle.std.proofs.lemmas.List.Sums.{fold_push}
 use Rattle.agc_plan.specs.declared.reply.Reply.{Reply}
 use Rattle.agc_plan.specs.declared.request.Request.{Request}
@@ -10,10 +9,10 @@ use Rattle.agc_plan.specs.Base.{Base}
 use Rattle.agc_plan.specs.Groups.{placed_step}
 use Rattle.agc_plan.specs.Plans.{Planned}
 use Rattle.agc_plan.specs.Seats.{Placed, era_places, placed, places_acted, places_after}
-use Rattle.agc_plan.specs.Steps.{Plain, Stepped, acted, begins, ended, era, reached, step}
+use Rattle.agc_plan.specs.Steps.{Plain, Stepped, acted, begins, ended, era, reached}
 use Rattle.agc_machine.specs.declared.answer.Refusal.{Refusal}
 use Rattle.agc_machine.specs.Image.{IsImage}
-use Rattle.agc_machine.specs.Machines.{Machined, after, begins_with, places_of, plain_of, refusal_of, served, starts_over, stepped}
+use Rattle.agc_machine.specs.Machines.{Machined, begins_with, places_of, plain_of, refusal_of, served, starts_over, stepped}
 use Rattle.agc_machine.specs.Moments.{Acting, IsMoment}
 use Rattle.agc_machine.proofs.Serving.{placed_plain, reached_more}
 use Rattle.agc_run.specs.Events.{leaves, scene_at, scene_now}
@@ -104,3 +103,10 @@ pub shown_on : (m : Machined) (asked : Request) (before : Option Scene) (now : M
 shown_on m asked before now answer moment none kept is e =
     ap scene_now is.now_is
     ∙ by_refusal m asked (refusal_of m asked) refl (goes_on (starts_over asked) (scene_now m) (sym none ∙ kept)) (sym (ap begins_with is.answer_is) ∙ e)
+
+-- the scene of the words as the request left them
+pub shown_left : (m : Machined) (asked : Request) (before : Option Scene) (now : Machined) (answer : Result Reply Refusal) (moment : Acting) (words : List ℕ) → before ≡ None → before ≡ (if starts_over asked then Some (scene_now m) else None) → IsServed m asked now answer moment → (begins_with answer ≡ true → words ≡ moment.words) → (begins_with answer ≡ false → IsImage now words) → scene_in words ≡ scene_at m asked
+shown_left m asked before now answer moment words none kept is begun goes = go (begins_with answer) refl where
+  go : (b : Bool) → begins_with answer ≡ b → scene_in words ≡ scene_at m asked
+  go true e = ap scene_in (begun e) ∙ shown_kept m asked before now answer moment none kept is e
+  go false e = scene_now_is now words (goes e) ∙ shown_on m asked before now answer moment none kept is e

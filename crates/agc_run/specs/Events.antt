@@ -1,6 +1,6 @@
 -- A machine that is watched, and the event of each request.
-use Rattle.std.specs.Prelude.{ℕ, ◌+◌, ◌==◌, ◌&&◌, ◌||◌, Bool, true, false, if◌then◌else◌, List, []}
-use Rattle.std.specs.Prelude.{length, Some, None, is_some}
+use Rattle.std.specs.Prelude.{ℕ, ◌+◌, ◌&&◌, ◌||◌, Bool, true, false, if◌then◌else◌, List, []}
+use Rattle.std.specs.Prelude.{◌-◌, ◌^◌, length, min, Some, None, is_some}
 use Rattle.std.specs.Option.{option_map_or}
 use Rattle.std.specs.Result.{is_ok}
 use Rattle.agc_plan.specs.declared.request.Request.{Request}
@@ -37,22 +37,18 @@ raised_at m asked =
 
 -- one more, up to the greatest number of 64 bits
 abbrev pub one_more : ℕ → ℕ
-one_more n = if n == 18446744073709551615 then n else n + 1
+one_more n = min (n + 1) (2 ^ 64 - 1)
 
 -- one more, where this is so
 abbrev pub one_more_if : Bool → ℕ → ℕ
 one_more_if is n = if is then one_more n else n
 
--- since this request, or since its restart
-abbrev pub since : ℕ → (restart : Bool) → Since
-since request restart = record { request = request; restart = restart }
-
 -- the jobs and the tasks with which an era begins came with its beginning
 abbrev pub jobs_begun : (request : ℕ) → Scene → List Origin
-jobs_begun request scene = origins_after (since request true) [] scene.seats
+jobs_begun request scene = origins_after (record { request = request; restart = true }) [] scene.seats
 
 abbrev pub tasks_begun : (request : ℕ) → Scene → List Listing
-tasks_begun request scene = listings_after (since request true) [] scene.waits
+tasks_begun request scene = listings_after (record { request = request; restart = true }) [] scene.waits
 
 -- a machine that is watched: how many requests were asked, how many ticks were served since the era
 -- began, and since the start, and since which request each job and each task is there
@@ -82,6 +78,7 @@ event_of w asked =
     let number = one_more w.asked in
     let ticked = is_tick asked && is_ok (answer_of m asked) in
     let scene = scene_at m asked in
+    let now : Since = record { request = number; restart = false } in
     record {
       number = number;
       time = one_more_if ticked w.time;
@@ -92,10 +89,8 @@ event_of w asked =
       raised = raised_at m asked;
       scene = scene;
       era = if begins_with (answer_of m asked) then Some (scene_now (after m asked)) else None;
-      jobs = origins_after (since number false) w.jobs scene.seats;
-      tasks = listings_after (since number false)
-          (left_by ticked (length (fired_of m asked)) w.tasks)
-          scene.waits;
+      jobs = origins_after now w.jobs scene.seats;
+      tasks = listings_after now (left_by ticked (length (fired_of m asked)) w.tasks) scene.waits;
     }
 
 -- the time after an event: where an era begins, time begins at 0

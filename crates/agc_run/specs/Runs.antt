@@ -1,14 +1,16 @@
 -- A run that is pulled: what is still to come of it, and to what end.
-use Rattle.std.specs.Prelude.{◌≡◌, ℕ, ◌+◌, ◌-◌, ◌*◌, Bool, List, [], ◌∷◌, ◌++◌, Option, Some}
-use Rattle.std.specs.Prelude.{None, drop, map, replicate}
-use Rattle.std.specs.List.{flat_map, fold}
+use Rattle.std.specs.Prelude.{◌≡◌, ℕ, ◌+◌, ◌-◌, ◌*◌, Bool, if◌then◌else◌, List, []}
+use Rattle.std.specs.Prelude.{◌∷◌, ◌++◌, Option, Some, None, drop, map, replicate}
+use Rattle.std.specs.List.{fold}
 use Rattle.agc_plan.specs.declared.reply.Alarm.{Alarm}
 use Rattle.agc_plan.specs.declared.request.Request.{Request}
 use Rattle.agc_plan.specs.Jobs.{Jobs}
 use Rattle.agc_machine.specs.Machines.{Machined, after, alarm_with, answer_of, plain_of}
 use Rattle.agc_machine.specs.Moments.{Acting}
 use Rattle.agc_clock.specs.declared.alarms.Alarms.{Alarms}
-use Rattle.agc_clock.specs.declared.asked.Asked.{Asked as TimeAsked}
+use Rattle.agc_clock.specs.declared.asked.Asked.{Asked}
+use Rattle.agc_clock.specs.declared.asked.Source.{Source as TimeSource}
+use Rattle.agc_clock.specs.declared.asked.Source.TheVariants as time
 use Rattle.agc_clock.specs.Alarms.{came}
 use Rattle.agc_clock.specs.Clocks.{Clocked, events_left, look_left}
 use Rattle.agc_clock.specs.Counts.{kept}
@@ -18,63 +20,36 @@ use Rattle.agc_clock.specs.Instants.{Instant, Works}
 use Rattle.agc_clock.specs.Runs.{Standing, begins_with}
 use Rattle.agc_clock.specs.Timetables.{Schedule}
 use Rattle.agc_scenario.specs.Scenarios.{Timed, schedule_of}
-use Rattle.agc_run.specs.declared.event.Event.{Event}
+use Rattle.agc_run.specs.declared.event.Event.{Event as Served}
 use Rattle.agc_run.specs.Events.{Watching, event_of, watched}
-use Rattle.agc_document.specs.Benches.{Benched}
-use Rattle.agc_session.specs.Pieces.{Piece, Walked, bench_pieces, to_come as pieces_to_come}
-use Rattle.agc_session.specs.declared.source.Source.{Source as BenchSource}
-use Rattle.agc_session.specs.declared.source.Source.TheVariants.{Script}
+use Rattle.agc_session.specs.Pieces.{Walked, is_in_time, rest}
+use Rattle.agc_session.specs.declared.source.PendingRequest.{PendingRequest}
+use Rattle.agc_session.specs.declared.source.Source.{Source}
+use Rattle.agc_session.specs.declared.source.Source.TheVariants.{Clock, Event}
 use Rattle.agc_run.specs.Going.{Going, lived_at, scenario_run, time_lived}
-use Rattle.agc_run.specs.declared.pending_requests.Call.{Call}
-use Rattle.agc_run.specs.declared.pending_requests.Source.{Source}
-use Rattle.agc_run.specs.declared.pending_requests.Source.TheVariants.{Bench, Time}
 
--- the requests of a bench or a script: a walk, and how many were taken of the piece on which it
--- stands
-pub record Requested : Type 0 where
-  pub walk : Walked
-  pub at : ℕ
+-- the source of a clock's request, and that request with it
+abbrev pub source_in_time : TimeSource → Source
+source_in_time time.Clock = Clock
+source_in_time (time.Event event) = Event event
 
--- a request with its source: a caller of the bench, or the clock or an event
-abbrev pub by_source : BenchSource → Request → Call
-by_source source request = record { source = Bench source; request = request }
-
-abbrev pub in_time : TimeAsked → Call
-in_time asked = record { source = Time asked.source; request = asked.request }
-
--- the requests of a piece of a bench, of a script, and of a whole bench, with their sources
-abbrev pub asks_in : Piece → List Call
-asks_in piece = map (by_source piece.source) piece.requests
-
-abbrev pub script_asks : List Request → List Call
-script_asks script = map (by_source Script) script
-
-unfoldable pub bench_asks : Benched → List Call
-bench_asks bench = flat_map asks_in (bench_pieces bench)
+abbrev pub in_time : Asked → PendingRequest
+in_time asked = record { source = source_in_time asked.source; request = asked.request }
 
 -- the requests alone
-abbrev pub requests_in : List Call → List Request
+abbrev pub requests_in : List PendingRequest → List Request
 requests_in all = map (λ asked. asked.request) all
-
--- the requests that are still to come
-unfoldable pub rest : Requested → List Call
-rest r = drop r.at (asks_in r.walk.here) ++ flat_map asks_in (pieces_to_come r.walk)
-
--- the first of that is taken, or there was none
-abbrev pub Takes : Requested → Option (BenchSource × Request) → Requested → Type 0
-Takes old (Some asked) new = rest old ≡ by_source asked.0 asked.1 ∷ rest new
-Takes old None new = (rest old ≡ []) × (rest new ≡ [])
 
 -- the requests that are still to come: those of a script or a bench and, if time passes, those of a
 -- clock, given the alarms so far
 pub record Pending : Type 0 where
-  pub listed : Requested
+  pub listed : Walked
   pub timing : Option Timed
   pub alarms : Alarms
   pub clock : Clocked
 
 -- the requests that a scenario's clock makes of a machine, in order; and without their sources
-unfoldable pub clock_asks : Timed → Machined → List Call
+unfoldable pub clock_asks : Timed → Machined → List PendingRequest
 clock_asks timed machine = map in_time (scenario_run timed machine).at.asked
 
 abbrev pub clock_requests : Timed → Machined → List Request
@@ -95,14 +70,14 @@ now_lived timed alarms clock machine =
     (left_now table clock)
 
 -- the requests that a clock makes while the rest of the time passes
-abbrev pub time_asks : Option Timed → Alarms → Clocked → Machined → List Call
+abbrev pub time_asks : Option Timed → Alarms → Clocked → Machined → List PendingRequest
 time_asks None alarms clock machine = []
 time_asks (Some timed) alarms clock machine = map in_time
     (time_lived timed (now_lived timed alarms clock machine) (clock.time + 1)
     (timed.seconds * 100 - clock.time)).at.asked
 
 -- all that this machine is still to be asked for, in order, each request with who asks for it
-unfoldable pub all_to_ask : Machined → Pending → List Call
+unfoldable pub all_to_ask : Machined → Pending → List PendingRequest
 all_to_ask m r =
     rest r.listed
     ++ time_asks r.timing r.alarms r.clock (fold after m (requests_in (rest r.listed)))
@@ -113,16 +88,16 @@ to_ask m r = requests_in (all_to_ask m r)
 
 -- a clock that was told whether an era began, and of the jobs, if it had asked
 abbrev pub clock_after : Source → Bool → Jobs → Clocked → Clocked
-clock_after (Bench source) began jobs clock = clock
-clock_after (Time source) began jobs clock = record clock { counts = kept began jobs clock.counts }
+clock_after source began jobs clock = if is_in_time source
+    then record clock { counts = kept began jobs clock.counts } else clock
 
 -- the alarms that came so far, after an answer at this time; only those of a clock's requests count
 abbrev pub alarms_with : Source → Option Alarm → ℕ → Alarms → Alarms
-alarms_with (Bench source) alarm time alarms = alarms
-alarms_with (Time source) alarm time alarms = came alarm time alarms
+alarms_with source alarm time alarms =
+    if is_in_time source then came alarm time alarms else alarms
 
 -- the pending requests after this machine has served one
-abbrev pub asks_after : Machined → Pending → Call → Pending
+abbrev pub asks_after : Machined → Pending → PendingRequest → Pending
 asks_after m r asked = record r {
   alarms = alarms_with asked.source (alarm_with (answer_of m asked.request)) r.clock.time
       r.alarms;
@@ -132,7 +107,7 @@ asks_after m r asked = record r {
 
 -- of what this machine is still to be asked for this comes first, and then the rest; or all was
 -- asked
-abbrev pub Pulls : Machined → Pending → Option Call → Pending → Type 0
+abbrev pub Pulls : Machined → Pending → Option PendingRequest → Pending → Type 0
 Pulls m old (Some asked) new =
     all_to_ask m old ≡ asked ∷ all_to_ask (after m asked.request) (asks_after m new asked)
 Pulls m old None new = all_to_ask m old ≡ []
@@ -161,7 +136,7 @@ pub record WatchingRun : Type 0 where
   pub pending : Pending
 
 -- the event of the next request, with its source; None once all have been made
-abbrev pub Comes : WatchingRun → Option (Source × Event) → WatchingRun → Type 0
+abbrev pub Comes : WatchingRun → Option (Source × Served) → WatchingRun → Type 0
 Comes old (Some came) new =
     (all_to_ask old.watching.machine old.pending
     ≡ record { source = came.0; request = came.1.request }

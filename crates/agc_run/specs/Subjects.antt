@@ -5,8 +5,10 @@ use Rattle.agc_machine.specs.Machines.{Machined}
 use Rattle.agc_scenario.specs.Scenarios.{Timed}
 use Rattle.agc_document.specs.Benches.{Benched}
 use Rattle.agc_session.specs.Runs.{bench_machine, bench_requests}
-use Rattle.agc_run.specs.declared.pending_requests.Call.{Call}
-use Rattle.agc_run.specs.Runs.{Pending, all_to_ask, bench_asks, clock_asks, clock_requests}
+use Rattle.std.specs.List.{flat_map}
+use Rattle.agc_session.specs.Pieces.{asks_in, bench_pieces}
+use Rattle.agc_session.specs.declared.source.PendingRequest.{PendingRequest}
+use Rattle.agc_run.specs.Runs.{Pending, all_to_ask, clock_asks, clock_requests}
 use Rattle.agc_run.specs.declared.subject.Subject.{Subject}
 use Rattle.agc_run.specs.declared.subject.Subject.TheVariants.{Bench, Scenario}
 
@@ -31,8 +33,8 @@ requests_of (Bench bench) machine = bench_requests bench.now
 requests_of (Scenario scenario) machine = clock_requests scenario.now.timing machine
 
 -- its requests, each with its source
-abbrev pub asks_of : Subject → Machined → List Call
-asks_of (Bench bench) machine = bench_asks bench.now
+abbrev pub asks_of : Subject → Machined → List PendingRequest
+asks_of (Bench bench) machine = flat_map asks_in (bench_pieces bench.now)
 asks_of (Scenario scenario) machine = clock_asks scenario.now.timing machine
 
 -- all requests for its own machine

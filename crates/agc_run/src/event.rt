@@ -1,5 +1,6 @@
 // A request, with all that is shown of it.
 ghost use Rattle.std.specs.Prelude.{◌≡◌};
+ghost use Rattle.agc_clock.specs.Runs.{begins_with as clock_begins};
 ghost use Rattle.agc_machine.specs.Machines.{alarm_with, begins_with};
 
 use crate::listings::Listings;
@@ -35,8 +36,9 @@ pub struct Event {
 }
 
 /// Whether an era begins with an answer.
-pub fn begins_with(answer: &Result<Reply, Refusal>) -> bool
-    ensures { result ≡ begins_with answer.now }
+pub(crate) fn begins_with(answer: &Result<Reply, Refusal>) -> bool
+    ensures machine { result ≡ begins_with answer.now }
+    ensures clock { result ≡ clock_begins answer.now }
 {
     match answer {
         Ok(reply) => reply.begins(),

@@ -4,39 +4,24 @@ ghost use Rattle.agc_exec.specs.Image.{IsLawfulWords, jobs_in};
 ghost use Rattle.agc_machine.specs.Machines.{Machined, alarm_with, plain_of};
 ghost use Rattle.agc_clock.specs.Elapsing.{Elapses};
 ghost use Rattle.agc_clock.specs.Runs.{begins_with};
-ghost use Rattle.agc_run.specs.Runs.{Pulls, alarms_with, all_to_ask, bench_asks, clock_after};
-ghost use Rattle.agc_run.specs.Runs.{clock_asks, elapsed_in, rest, script_asks};
+ghost use Rattle.agc_run.specs.Runs.{Pulls, alarms_with, all_to_ask, clock_after, clock_asks};
+ghost use Rattle.agc_run.specs.Runs.{elapsed_in, source_in_time};
+ghost use Rattle.agc_session.specs.Pieces.{rest};
 
-use crate::event::alarm_with;
-use crate::requests::Requests;
+use crate::event::{alarm_with, begins_with};
 use agc_clock::{Alarms, Clock, Elapsed};
-use agc_document::Bench;
 use agc_machine::Refusal;
-use agc_plan::{Reply, Request};
+use agc_plan::Reply;
 use agc_scenario::{CurrentTimetable, Timing};
+use agc_session::{PendingRequest, Source, Walk};
 use agc_word::Erasable;
 use std::marker::Model;
-
-/// The source of a request: the script, a worker or a pulse of a bench, or a scenario's clock or
-/// one of its events.
-#[derive(Clone, Copy, PartialEq, Eq)]
-pub enum Source {
-    Bench(agc_session::Source),
-    Time(agc_clock::Source),
-}
-
-/// The request that comes next, and its source.
-#[derive(Clone, Copy)]
-pub struct Call {
-    pub source: Source,
-    pub request: Request,
-}
 
 /// The pending requests of a run: those of a script or a bench, and then those of a clock, if time
 /// passes.
 #[derive(Drop)]
 pub struct PendingRequests<'a> {
-    listed: Requests<'a>,
+    listed: Walk<'a>,
     timing: Option<&'a Timing>,
     alarms: Alarms,
     clock: Clock,
@@ -56,35 +41,23 @@ impl<'a> Model for PendingRequests<'a> {
     } };
 }
 
-/// Whether an era began with an answer.
-fn begins_with(answer: &Result<Reply, Refusal>) -> bool
-    ensures { result ≡ begins_with answer.now }
+/// The source of a clock's request.
+fn source_in_time(source: agc_clock::Source) -> Source
+    ensures { result ≡ source_in_time source }
 {
-    match answer {
-        Ok(reply) => reply.begins(),
-        Err(_refusal) => false,
+    match source {
+        agc_clock::Source::Clock => Source::Clock,
+        agc_clock::Source::Event(event) => Source::Event(event),
     }
 }
 
 impl<'a> PendingRequests<'a> {
-    /// The requests of a script, in order.
-    pub fn of_script(script: &'a [Request]) -> PendingRequests<'a>
-        ensures { (m : Machined) → all_to_ask m result ≡ script_asks script.now }
+    /// The requests of a walk.
+    pub fn of_walk(walk: Walk<'a>) -> PendingRequests<'a>
+        ensures { (m : Machined) → all_to_ask m result ≡ rest walk.entry }
     {
         PendingRequests {
-            listed: Requests::of_script(script),
-            timing: None,
-            alarms: Alarms::none(),
-            clock: Clock::new(0),
-        }
-    }
-
-    /// The requests of a bench, in the order of [`serial`](agc_session::serial).
-    pub fn of_bench(bench: &'a Bench) -> PendingRequests<'a>
-        ensures { (m : Machined) → all_to_ask m result ≡ bench_asks bench.now }
-    {
-        PendingRequests {
-            listed: Requests::of_bench(bench),
+            listed: walk,
             timing: None,
             alarms: Alarms::none(),
             clock: Clock::new(0),
@@ -96,7 +69,7 @@ impl<'a> PendingRequests<'a> {
         ensures { (m : Machined) → all_to_ask m result ≡ clock_asks timing.now m }
     {
         PendingRequests {
-            listed: Requests::of_script(&[]),
+            listed: Walk::of_script(&[]),
             timing: Some(timing),
             alarms: Alarms::none(),
             clock: Clock::new(timing.seed()),
@@ -117,7 +90,7 @@ impl<'a> PendingRequests<'a> {
     /// The next request and its source, given the machine's words; the machine must then be asked
     /// for it. None once all have been made. With it comes the time that passed since the request
     /// before, which only a clock knows.
-    pub(crate) fn next(&mut self, words: &Erasable) -> (Option<Call>, Elapsed)
+    pub(crate) fn next(&mut self, words: &Erasable) -> (Option<PendingRequest>, Elapsed)
         requires { IsLawfulWords words.now }
         ensures pulls { (m : Machined) → jobs_in words.now ≡ (plain_of m).work.jobs
             → Pulls m self.old result.0 self.new }
@@ -125,16 +98,13 @@ impl<'a> PendingRequests<'a> {
         ensures all_elapsed { Elapses self.old.clock result.1 self.new.clock }
     {
         match self.listed.next() {
-            Some((source, request)) => {
-                let source = Source::Bench(source);
-                return (Some(Call { source, request }), Elapsed::none());
-            }
-            None => return self.next_in_time(words),
+            Some(pending) => (Some(pending), Elapsed::none()),
+            None => self.next_in_time(words),
         }
     }
 
     /// The next request of the clock.
-    fn next_in_time(&mut self, words: &Erasable) -> (Option<Call>, Elapsed)
+    fn next_in_time(&mut self, words: &Erasable) -> (Option<PendingRequest>, Elapsed)
         requires over { rest self.old.listed ≡ [] }
         requires lawful { IsLawfulWords words.now }
         ensures pulls { (m : Machined) → jobs_in words.now ≡ (plain_of m).work.jobs
@@ -154,15 +124,15 @@ impl<'a> PendingRequests<'a> {
         match asked {
             None => return (None, elapsed),
             Some(asked) => {
-                let source = Source::Time(asked.source);
+                let source = source_in_time(asked.source);
                 let request = asked.request;
-                return (Some(Call { source, request }), elapsed);
+                return (Some(PendingRequest { source, request }), elapsed);
             }
         }
     }
 
     /// Takes the outcome of the last request: the machine's words after it, and the answer.
-    pub(crate) fn served(&mut self, asked: &Call, words: &Erasable, answer: &Result<Reply, Refusal>)
+    pub(crate) fn served(&mut self, asked: &PendingRequest, words: &Erasable, answer: &Result<Reply, Refusal>)
         requires { IsLawfulWords words.now }
         ensures { self.new ≡ record self.old {
           alarms = alarms_with asked.now.source (alarm_with answer.now) self.old.clock.time
@@ -171,9 +141,12 @@ impl<'a> PendingRequests<'a> {
               self.old.clock;
         } }
     {
-        if let Source::Time(_source) = asked.source {
-            self.alarms.came(alarm_with(answer), self.clock.time());
-            self.clock.served(words, begins_with(answer));
+        match asked.source {
+            Source::Clock | Source::Event(_) => {
+                self.alarms.came(alarm_with(answer), self.clock.time());
+                self.clock.served(words, begins_with(answer));
+            }
+            Source::Script | Source::Worker(_) | Source::Pulse(_) => {}
         }
     }
 }

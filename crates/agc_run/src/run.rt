@@ -5,13 +5,15 @@ ghost use Rattle.agc_machine.specs.Image.{AreLawful, IsImage};
 ghost use Rattle.agc_machine.specs.Machines.{after, answer_of, begins_with, fired_of, plain_of};
 ghost use Rattle.agc_machine.specs.Moments.{IsMoment};
 ghost use Rattle.agc_plan.specs.Steps.{begins};
+ghost use Rattle.agc_run.specs.Events.{raised_at};
 ghost use Rattle.agc_run.specs.Runs.{Pulls, asks_after, elapsed_in};
 
 use crate::event::begins_with;
-use crate::pending_requests::{Call, PendingRequests};
+use crate::pending_requests::PendingRequests;
 use agc_clock::{Clock, Elapsed};
 use agc_machine::{Machine, Moment, Refusal};
 use agc_plan::{Fired, Reply, Request};
+use agc_session::PendingRequest;
 use agc_word::Erasable;
 use std::marker::Model;
 
@@ -84,7 +86,7 @@ impl<'a> Run<'a> {
 
     /// The next request and its source; the machine must then be asked for it. None once all have
     /// been made.
-    pub fn next(&mut self) -> Option<Call>
+    pub fn next(&mut self) -> Option<PendingRequest>
         ensures pulls { Pulls self.old.machine self.old.pending result self.new.pending }
         ensures machine { self.new.machine ≡ self.old.machine }
         ensures elapsed { self.new.elapsed ≡ elapsed_in (plain_of self.old.machine).work.jobs
@@ -98,10 +100,12 @@ impl<'a> Run<'a> {
     }
 
     /// Asks the machine for the request that came next.
-    pub fn ask(&mut self, asked: &Call) -> Result<Reply, Refusal>
+    pub fn ask(&mut self, asked: &PendingRequest) -> Result<Reply, Refusal>
         ensures answer { result ≡ answer_of self.old.machine asked.now.request }
         ensures fired { self.new.snapshot.fired
             ≡ fired_of self.old.machine asked.now.request }
+        ensures raised { self.new.snapshot.number
+            ≡ raised_at self.old.machine asked.now.request }
         ensures machine { self.new.machine ≡ after self.old.machine asked.now.request }
         ensures begun { IfOk result (λ reply. begins reply ≡ true
             → IsMoment self.old.machine asked.now.request self.new.snapshot) }
@@ -121,6 +125,13 @@ impl<'a> Run<'a> {
         ensures { result.now ≡ self.now.snapshot.fired }
     {
         self.snapshot.fired()
+    }
+
+    /// Which action of the last task that fired in it raised an alarm, from 1; 0 if none did.
+    pub(crate) fn raised(&self) -> usize
+        ensures { result ≡ self.now.snapshot.number }
+    {
+        self.snapshot.number()
     }
 
     /// The words as the last request left them, which got this answer, before an era began with it.

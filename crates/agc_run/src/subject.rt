@@ -7,9 +7,8 @@ use crate::observed_run::ObservedRun;
 use crate::pending_requests::PendingRequests;
 use crate::run::Run;
 use agc_document::Bench;
-use agc_machine::Machine;
 use agc_scenario::{Scenario, Timing};
-use agc_session::{RunFault, machine_of};
+use agc_session::{RunFault, Walk, machine_of};
 use std::alloc::Global;
 
 /// The subject of a run: a bench, in the order of [`serial`](agc_session::serial), or a scenario.
@@ -40,24 +39,12 @@ impl<'a> Subject<'a> {
         }
     }
 
-    /// Its machine, before the first request.
-    ///
-    /// # Errors
-    ///
-    /// `NoMemory`, and no other.
-    pub fn machine(self, alloc: Global) -> Result<Machine, RunFault>
-        ensures machine { IfOk result (λ m. m ≡ machine_of self.entry) }
-        ensures refused { IfErr result (λ e. e ≡ RunFault.NoMemory) }
-    {
-        machine_of(alloc, self.bench())
-    }
-
     /// All its requests.
-    pub fn pending(self) -> PendingRequests<'a>
+    fn pending(self) -> PendingRequests<'a>
         ensures { IsOf self.entry result }
     {
         match self {
-            Subject::Bench(bench) => PendingRequests::of_bench(bench),
+            Subject::Bench(bench) => PendingRequests::of_walk(Walk::new(bench)),
             Subject::Scenario(scenario) => PendingRequests::of_scenario(scenario.timing()),
         }
     }
@@ -72,7 +59,7 @@ impl<'a> Subject<'a> {
         ensures pending { IfOk result (λ r. IsOf self.entry r.pending) }
         ensures refused { IfErr result (λ e. e ≡ RunFault.NoMemory) }
     {
-        let machine = self.machine(alloc)?;
+        let machine = machine_of(alloc, self.bench())?;
         Ok(Run::new(machine, self.pending()))
     }
 
@@ -86,7 +73,6 @@ impl<'a> Subject<'a> {
         ensures pending { IfOk result (λ r. IsOf self.entry r.pending) }
         ensures refused { IfErr result (λ e. e ≡ RunFault.NoMemory) }
     {
-        let machine = self.machine(alloc)?;
-        Ok(ObservedRun::new(machine, self.pending()))
+        Ok(ObservedRun::new(self.run(alloc)?))
     }
 }

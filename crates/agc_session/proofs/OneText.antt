@@ -20,9 +20,7 @@ use Rattle.agc_exec.proofs.Slots.{job_numbered-at, get_or-slots_from}
 use Rattle.agc_exec.proofs.Decoding.{held_of-fields, held_at, length-sets}
 use Rattle.agc_exec.proofs.Reading.{get-block_in, get-blocks_of, length-blocks_of}
 use Rattle.agc_exec.proofs.Turning.{block_held}
-use Rattle.agc_wait.specs.Table as wait
 use Rattle.agc_wait.proofs.OneImage.{Shows-one}
-use Rattle.agc_phase.specs.Image as phases
 use Rattle.agc_phase.proofs.OneTable.{one_table}
 use Rattle.agc_machine.specs.declared.totals.Totals.{Totals}
 use Rattle.agc_machine.specs.Image.{IsImage, HandsOut}

@@ -1,5 +1,5 @@
 -- Whether twelve phase words agree.
-use Rattle.std.proofs.Common.{◌≡◌, ◌==◌, eq-eqb, ℕ, ◌<◌, ◌≤◌, ◌↔◌, IsTrue, nat_le, Bool, true, List, get_or, subst, sym, arith, Decides}
+use Rattle.std.proofs.Common.{◌≡◌, ◌==◌, ◌&&◌, eq-eqb, ℕ, ◌<◌, ◌↔◌, IsTrue, nat_le, Bool, true, List, get_or, subst, sym, arith, Decides}
 use Rattle.std.specs.List.{list_all, range_with_len}
 use Rattle.std.proofs.lemmas.Bool.{and_parts, and_from, eqb-true, le-leb, leb-true}
 use Rattle.std.proofs.lemmas.Bool.Decides.{same_from_decides}
@@ -8,7 +8,10 @@ use Rattle.std.proofs.lemmas.List.Sums.{AllPass-from_list_all, list_all-from_All
 use Rattle.agc_word.specs.Words.{complement}
 use Rattle.agc_phase.specs.Image.{ArePairs, minus_in, phase_in}
 use Rattle.agc_phase.specs.Writing.{IsPair}
-use Rattle.agc_session.specs.Runs.{pair_agrees, pairs_agree}
+use Rattle.agc_session.specs.Runs.{pairs_agree}
+
+abbrev pair_agrees : ℕ → ℕ → Bool
+pair_agrees minus phase = (minus == complement phase) && nat_le phase 127
 
 pair_is : (minus phase : ℕ) → pair_agrees minus phase ≡ true → IsPair minus phase
 pair_is minus phase h =

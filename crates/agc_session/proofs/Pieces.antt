@@ -10,18 +10,30 @@ use Rattle.agc_plan.specs.declared.request.Action.{Action}
 use Rattle.agc_plan.specs.declared.request.Request.{Request}
 use Rattle.agc_plan.specs.Pulses.{pulse_requests}
 use Rattle.agc_document.specs.Benches.{Benched}
+use Rattle.agc_session.specs.declared.source.PendingRequest.{PendingRequest}
+use Rattle.agc_session.specs.declared.source.Source.{Source}
 use Rattle.agc_session.specs.declared.source.Source.TheVariants.{Script, Worker}
-use Rattle.agc_session.specs.Pieces.{Piece, Walked, worker_pieces, device_pieces, pulse_asks, pulse_piece, bench_pieces, to_come, script_piece}
+use Rattle.agc_session.specs.Pieces.{Piece, Walked, asks_in, bench_pieces, device_pieces, pulse_asks, pulse_piece, rest, script_piece, to_come, worker_pieces}
 use Rattle.agc_session.specs.Runs.{bench_plan, bench_requests, device_requests}
+
+-- a request with its source
+abbrev pub by_source : Source → Request → PendingRequest
+by_source source request = record { source = source; request = request }
 
 -- the requests of a piece
 abbrev pub piece_requests : Piece → List Request
 piece_requests piece = piece.requests
 
 -- before the first, all are to come
-pub at_first : (bench : Benched) (here : Piece) (s : List Request) (ws : List (List Request)) (ds : List (Line × ℕ)) (k r : List Action) → s ≡ bench.script → ws ≡ bench.workers → ds ≡ bench.devices → k ≡ bench.key → r ≡ bench.radar → to_come (record { script = s; workers = ws; devices = ds; key = k; radar = r; here = here; left = 0; begun = false; worker = 0; device = 0 }) ≡ bench_pieces bench
+pub at_first : (bench : Benched) (here : Piece) (s : List Request) (ws : List (List Request)) (ds : List (Line × ℕ)) (k r : List Action) → s ≡ bench.script → ws ≡ bench.workers → ds ≡ bench.devices → k ≡ bench.key → r ≡ bench.radar → to_come (record { script = s; workers = ws; devices = ds; key = k; radar = r; here = here; at = 0; left = 0; begun = false; worker = 0; device = 0 }) ≡ bench_pieces bench
 unfolding to_come bench_pieces
 at_first bench here s ws ds k r si wi di ki ri = rw (si, wi, di, ki, ri) refl
+
+pub none_taken : (w : Walked) (ps : List Piece) → w.at ≡ 0 → asks_in w.here ≡ [] → to_come w ≡ ps → rest w ≡ flat_map asks_in ps
+unfolding rest
+none_taken w ps at none is =
+    ap (λ (k : ℕ). drop k (asks_in w.here) ++ flat_map asks_in (to_come w)) at
+    ∙ ap (λ (xs : List PendingRequest). xs ++ flat_map asks_in (to_come w)) none ∙ ap (flat_map asks_in) is
 
 -- one of so many
 front_of : (n : ℕ) (p : Piece) → 0 < n → replicate n p ≡ p ∷ replicate (n - 1) p
@@ -113,3 +125,41 @@ one_piece w l b k d ws ds = rw (l, b, k, d, ws, ds) refl
 -- the next piece, and the rest
 pub next_piece : (w new : Walked) → to_come w ≡ new.here ∷ to_come new → flat_map piece_requests (to_come w) ≡ new.here.requests ++ flat_map piece_requests (to_come new)
 next_piece w new is = ap (flat_map piece_requests) is ∙ flat_map-cons piece_requests new.here (to_come new)
+
+-- what is asked of the piece, and after it
+parts : (w : Walked) (here : List PendingRequest) → drop w.at (asks_in w.here) ≡ here → rest w ≡ here ++ flat_map asks_in (to_come w)
+unfolding rest
+parts w here is = ap (λ (xs : List PendingRequest). xs ++ flat_map asks_in (to_come w)) is
+
+none_here : (piece : Piece) (k : ℕ) → length piece.requests ≤ k → drop k (asks_in piece) ≡ []
+none_here piece k high = drop-map (by_source piece.source) k piece.requests ∙ ap (map (by_source piece.source)) (none_left piece.requests k high)
+
+-- a piece is over: the next
+pub piece_over : (w new : Walked) → length w.here.requests ≤ w.at → to_come w ≡ new.here ∷ to_come new → rest w ≡ rest (record new { at = 0 })
+unfolding to_come
+piece_over w new high is =
+    parts w [] (none_here w.here w.at high) ∙ ap (flat_map asks_in) is ∙ flat_map-cons asks_in new.here (to_come new) ∙ sym (parts (record new { at = 0 }) (asks_in new.here) refl)
+
+pub unmoved : (w : Walked) (at : ℕ) → to_come (record w { at = at }) ≡ to_come w
+unfolding to_come
+unmoved w at = refl
+
+-- and no other comes
+pub all_over : (w : Walked) → length w.here.requests ≤ w.at → to_come w ≡ [] → rest w ≡ []
+all_over w high is = parts w [] (none_here w.here w.at high) ∙ ap (flat_map asks_in) is
+
+pub all_passed : (w : Walked) → length w.here.requests ≡ w.at → to_come w ≡ [] → rest w ≡ []
+all_passed w high is = all_over w (omega (arith, high)) is
+
+first_here : (piece : Piece) (k : ℕ) (q : Request) → k < length piece.requests → q ≡ get_or piece.requests k q → drop k (asks_in piece) ≡ by_source piece.source q ∷ drop (k + 1) (asks_in piece)
+first_here piece k q low is =
+    let asked = by_source piece.source in
+    drop-map asked k piece.requests ∙ ap (map asked) (next_is piece.requests k q low is) ∙ ap (λ (xs : List PendingRequest). asked q ∷ xs) (sym (drop-map asked (k + 1) piece.requests))
+
+-- one more of the piece
+pub one_taken : (w : Walked) (q : Request) → w.at < length w.here.requests → q ≡ get_or w.here.requests w.at q → rest w ≡ by_source w.here.source q ∷ rest (record w { at = w.at + 1 })
+unfolding to_come
+one_taken w q low is =
+    let asked = by_source w.here.source q in
+    let new : Walked = record w { at = w.at + 1 } in
+    parts w (asked ∷ drop (w.at + 1) (asks_in w.here)) (first_here w.here w.at q low is) ∙ ap (λ (xs : List PendingRequest). asked ∷ xs) (sym (parts new (drop (w.at + 1) (asks_in w.here)) refl))

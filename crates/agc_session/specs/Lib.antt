@@ -4,4 +4,3 @@ pub mod Session
 pub mod Runs
 pub mod Pieces
 pub mod Steps
-pub mod Shown

@@ -1,5 +1,6 @@
 -- The requests of a bench or script, piece by piece, each with the source that asks for it.
-use Rattle.std.specs.Prelude.{◌≡◌, ℕ, ◌+◌, List, [], ◌∷◌, ◌++◌, Bool, true, false, drop, replicate}
+use Rattle.std.specs.Prelude.{◌≡◌, ℕ, ◌+◌, List, [], ◌∷◌, ◌++◌, Bool, true, false, drop, map}
+use Rattle.std.specs.Prelude.{if◌then◌else◌, Option, Some, None, replicate}
 use Rattle.std.specs.List.{flat_map}
 use Rattle.agc_plan.specs.declared.line.Line.{Line}
 use Rattle.agc_plan.specs.declared.request.Action.{Action}
@@ -7,13 +8,24 @@ use Rattle.agc_plan.specs.declared.request.Request.{Request}
 use Rattle.agc_plan.specs.Plans.{planned_with}
 use Rattle.agc_plan.specs.Pulses.{pulse_requests}
 use Rattle.agc_document.specs.Benches.{Benched}
+use Rattle.agc_session.specs.declared.source.PendingRequest.{PendingRequest}
 use Rattle.agc_session.specs.declared.source.Source.{Source}
-use Rattle.agc_session.specs.declared.source.Source.TheVariants.{Script, Worker, Pulse}
+use Rattle.agc_session.specs.declared.source.Source.TheVariants.{Script, Worker, Pulse, Clock, Event}
+
+-- whether time makes the requests of a source: a clock does, or an event
+abbrev pub is_in_time : Source → Bool
+is_in_time Clock = true
+is_in_time (Event event) = true
+is_in_time other = false
 
 -- requests that one source asks for, one after the other
 pub record Piece : Type 0 where
   pub source : Source
   pub requests : List Request
+
+-- its requests, each with their source
+abbrev pub asks_in : Piece → List PendingRequest
+asks_in piece = map (λ request. record { source = piece.source; request = request }) piece.requests
 
 -- the workers' pieces, from this number on
 abbrev pub worker_pieces : ℕ → List (List Request) → List Piece
@@ -28,8 +40,7 @@ pulse_asks key radar line = pulse_requests
 
 -- a device's: one for each pulse
 abbrev pub pulse_piece : List Action → List Action → Line → Piece
-pulse_piece key radar line = record
-    { source = Pulse line; requests = pulse_asks key radar line }
+pulse_piece key radar line = record { source = Pulse line; requests = pulse_asks key radar line }
 
 abbrev pub device_pieces : List Action → List Action → Line × ℕ → List Piece
 device_pieces key radar device = replicate device.1 (pulse_piece key radar device.0)
@@ -42,8 +53,9 @@ unfoldable pub bench_pieces : Benched → List Piece
 bench_pieces bench = script_piece bench.script ∷ (worker_pieces 1 bench.workers
     ++ flat_map (device_pieces bench.key bench.radar) bench.devices)
 
--- where a walk stands: what it goes through; the piece on which it stands, which comes this many
--- times more; whether the script was walked, and how many workers and devices were
+-- where a walk stands: what it goes through; the piece on which it stands, of which this many
+-- requests were taken, and which comes this many times more; whether the script was walked, and
+-- how many workers and devices were
 pub record Walked : Type 0 where
   pub script : List Request
   pub workers : List (List Request)
@@ -51,18 +63,15 @@ pub record Walked : Type 0 where
   pub key : List Action
   pub radar : List Action
   pub here : Piece
+  pub at : ℕ
   pub left : ℕ
   pub begun : Bool
   pub worker : ℕ
   pub device : ℕ
 
-abbrev pub script_left : List Request → Bool → List Piece
-script_left script true = []
-script_left script false = script_piece script ∷ []
-
 -- the pieces that are still to come
 unfoldable pub to_come : Walked → List Piece
-to_come w = replicate w.left w.here ++ (script_left w.script w.begun
+to_come w = replicate w.left w.here ++ ((if w.begun then [] else script_piece w.script ∷ [])
     ++ (worker_pieces (w.worker + 1) (drop w.worker w.workers)
     ++ flat_map (device_pieces w.key w.radar) (drop w.device w.devices)))
 
@@ -70,6 +79,15 @@ to_come w = replicate w.left w.here ++ (script_left w.script w.begun
 abbrev pub Advances : Walked → Bool → Walked → Type 0
 Advances old true new = to_come old ≡ new.here ∷ to_come new
 Advances old false new = (to_come old ≡ []) × (to_come new ≡ [])
+
+-- the requests that are still to come
+unfoldable pub rest : Walked → List PendingRequest
+rest w = drop w.at (asks_in w.here) ++ flat_map asks_in (to_come w)
+
+-- the first of that is taken, or there was none
+abbrev pub Takes : Walked → Option PendingRequest → Walked → Type 0
+Takes old (Some asked) new = rest old ≡ asked ∷ rest new
+Takes old None new = (rest old ≡ []) × (rest new ≡ [])
 
 -- the requests of the piece: the bench's own, or the pulse's
 abbrev pub requests_here : Source → List Request → List Request → List Request

@@ -12,23 +12,16 @@ use Rattle.agc_plan.specs.declared.line.Line.{Line}
 use Rattle.agc_plan.specs.Pulses.{pulse_requests, repeated}
 use Rattle.agc_document.specs.Benches.{Benched}
 
--- a plan in which nothing is planned
-abbrev pub empty_plan : Written
-empty_plan = record { rows = []; entries = []; key = []; radar = [] }
-
 -- the machine of a script: it has seven core sets, nothing is planned, the log holds 1000 requests,
 -- and 1,000,000 are served
 unfoldable pub script_machine : Machined
-script_machine = begun_with (planned_with empty_plan 7) 1000 1000000 fresh_base
+script_machine = begun_with (planned_with (record { rows = []; entries = []; key = []; radar = [] })
+    7) 1000 1000000 fresh_base
 
--- whether the words -PHASE and PHASE of a group are complements, and the phase is at most 127
-abbrev pub pair_agrees : ℕ → ℕ → Bool
-pair_agrees minus phase = (minus == complement phase) && nat_le phase 127
-
--- whether twelve phase words agree, pair by pair
+-- whether the words -PHASE and PHASE of each group are complements, and the phase at most 127
 abbrev pub pairs_agree : List ℕ → Bool
-pairs_agree words = list_all
-    (λ group. pair_agrees (minus_in words group) (phase_in words group)) (range_with_len 0 6)
+pairs_agree words = list_all (λ group. (minus_in words group == complement (phase_in words group))
+    && nat_le (phase_in words group) 127) (range_with_len 0 6)
 
 -- with what a bench's machine begins: as power comes back with these words, or else afresh
 abbrev pub bench_base : Option (List ℕ) → Base

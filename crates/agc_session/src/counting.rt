@@ -1,5 +1,4 @@
 // The number of a bench's requests.
-use crate::source::Source;
 use crate::walk::Walk;
 use agc_document::Bench;
 
@@ -11,26 +10,19 @@ pub struct RequestCount {
     pub is_shared: bool,
 }
 
-/// Whether there was another source before this one.
-fn is_other(first: Option<Source>, source: Source) -> bool {
-    match first {
-        None => false,
-        Some(first) => first != source,
-    }
-}
-
 /// Counts the requests of a bench.
 pub fn count_requests(bench: &Bench) -> RequestCount {
     let mut requests: u64 = 0;
-    let mut first = None;
+    let mut last = None;
     let mut is_shared = false;
     let mut walk = Walk::new(bench);
     while walk.advance() {
         let count = walk.requests().len() as u64;
         if count > 0 {
             requests = requests.saturating_add(count);
-            is_shared = is_shared || is_other(first, walk.source());
-            first = Some(walk.source());
+            let source = Some(walk.source());
+            is_shared = is_shared || (last.is_some() && last != source);
+            last = source;
         }
     }
     RequestCount {

@@ -9,13 +9,3 @@ pub trait Progress {
     /// Counts one more that is done.
     fn done(&mut self);
 }
-
-/// No display.
-#[derive(Clone, Copy, Default)]
-pub struct Silent;
-
-impl Progress for Silent {
-    fn expect(&mut self, _count: u64) {}
-
-    fn done(&mut self) {}
-}

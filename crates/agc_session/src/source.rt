@@ -1,13 +1,22 @@
 // Sources of requests.
-use agc_plan::Line;
-use std::fmt;
+use agc_plan::{Line, Request};
 
-/// The source of a request: the script, a worker by its number from 1, or a pulse of a line.
+/// The source of a request: the script, a worker by its number from 1, a pulse of a line, the clock
+/// of a scenario, or one of its events by its number from 0.
 #[derive(Clone, Copy, PartialEq, Eq)]
 pub enum Source {
     Script,
     Worker(u64),
     Pulse(Line),
+    Clock,
+    Event(usize),
+}
+
+/// A request that comes next, and its source.
+#[derive(Clone, Copy)]
+pub struct PendingRequest {
+    pub source: Source,
+    pub request: Request,
 }
 
 /// The name of a pulse line in rows and sentences.
@@ -16,15 +25,5 @@ pub fn line_name(line: Line) -> &'static str {
         Line::Timer => "timer",
         Line::Key => "key",
         Line::Radar => "radar",
-    }
-}
-
-impl fmt::Display for Source {
-    fn fmt<W: fmt::Write>(&self, f: &mut fmt::Formatter<W>) -> fmt::Result {
-        match *self {
-            Source::Worker(number) => write!(f, "worker {number}"),
-            Source::Script => f.write_str("script"),
-            Source::Pulse(line) => f.write_str(line_name(line)),
-        }
     }
 }

@@ -1,16 +1,17 @@
 // A walk over a bench or a script that is pulled, piece by piece.
-ghost use Rattle.std.specs.Prelude.{◌≡◌, ◌≤◌, ◌∷◌, [], length, true, false};
-ghost use Rattle.agc_session.specs.Pieces.{Advances, bench_pieces, pulse_piece, script_piece};
-ghost use Rattle.agc_session.specs.Pieces.{to_come};
+ghost use Rattle.std.specs.Prelude.{◌≡◌, ◌≤◌, ◌∷◌, length, true, false, IfSome};
+ghost use Rattle.std.specs.List.{flat_map};
+ghost use Rattle.agc_session.specs.Pieces.{Advances, Takes, asks_in, bench_pieces, is_in_time};
+ghost use Rattle.agc_session.specs.Pieces.{pulse_piece, rest, script_piece, to_come};
 
 use crate::following::pulse_asks;
-use crate::source::Source;
+use crate::source::{PendingRequest, Source};
 use agc_document::Bench;
 use agc_plan::{Action, Line, Request};
 use std::marker::Model;
 
-/// A walk over a bench or a script: it is at requests of one source, in order. Contracts see the
-/// pieces that are still to come.
+/// A walk over a bench or a script: it is at requests of one source, of which some were taken.
+/// Contracts see the pieces that are still to come.
 #[derive(Drop)]
 pub struct Walk<'a> {
     script: &'a [Request],
@@ -21,6 +22,7 @@ pub struct Walk<'a> {
     lent: &'a [Request],
     pulse: [Request; 4],
     count: usize,
+    at: usize,
     source: Source,
     left: u32,
     begun: bool,
@@ -29,8 +31,8 @@ pub struct Walk<'a> {
 }
 
 impl<'a> Model for Walk<'a> {
-    ghost use Rattle.std.specs.Prelude.{◌≡◌, ◌≤◌, length, map, take};
-    ghost use Rattle.agc_session.specs.Pieces.{Walked, requests_here};
+    ghost use Rattle.std.specs.Prelude.{◌≡◌, ◌≤◌, false, length, map, take};
+    ghost use Rattle.agc_session.specs.Pieces.{Walked, is_in_time, requests_here};
 
     ghost Value = { Walked };
 
@@ -44,6 +46,7 @@ impl<'a> Model for Walk<'a> {
         source = w.source;
         requests = requests_here w.source w.lent.now (take w.count w.pulse);
       };
+      at = w.at;
       left = w.left;
       begun = w.begun;
       worker = w.worker;
@@ -51,14 +54,14 @@ impl<'a> Model for Walk<'a> {
     } };
 
     ghost invariant = { λ w. (w.count ≤ 4) × (length w.pulse ≡ 4) × (length w.key.now ≤ 4)
-        × (length w.radar.now ≤ 4) };
+        × (length w.radar.now ≤ 4) × (is_in_time w.source ≡ false) };
 }
 
 impl<'a> Walk<'a> {
     /// A walk over a bench, before the first piece.
     pub fn new(bench: &'a Bench) -> Walk<'a>
-        ensures all { to_come result ≡ bench_pieces bench.now }
-        ensures none { result.here.requests ≡ [] }
+        ensures pieces { to_come result ≡ bench_pieces bench.now }
+        ensures all { rest result ≡ flat_map asks_in (bench_pieces bench.now) }
     {
         Walk {
             script: bench.script(),
@@ -69,6 +72,7 @@ impl<'a> Walk<'a> {
             lent: &[],
             pulse: [Request::Tick; 4],
             count: 0,
+            at: 0,
             source: Source::Script,
             left: 0,
             begun: false,
@@ -79,8 +83,7 @@ impl<'a> Walk<'a> {
 
     /// A walk over a script, before the first piece.
     pub fn of_script(script: &'a [Request]) -> Walk<'a>
-        ensures all { to_come result ≡ script_piece script.now ∷ [] }
-        ensures none { result.here.requests ≡ [] }
+        ensures { rest result ≡ asks_in (script_piece script.now) }
     {
         Walk {
             script,
@@ -91,6 +94,7 @@ impl<'a> Walk<'a> {
             lent: &[],
             pulse: [Request::Tick; 4],
             count: 0,
+            at: 0,
             source: Source::Script,
             left: 0,
             begun: false,
@@ -114,6 +118,8 @@ impl<'a> Walk<'a> {
             Source::Pulse(_line) => &self.pulse[..self.count],
             Source::Script => self.lent,
             Source::Worker(_number) => self.lent,
+            Source::Clock => self.lent,
+            Source::Event(_number) => self.lent,
         }
     }
 
@@ -188,5 +194,23 @@ impl<'a> Walk<'a> {
             return true;
         }
         self.next_device()
+    }
+
+    /// The next request and its source, piece by piece. None once all were taken.
+    pub fn next(&mut self) -> Option<PendingRequest>
+        ensures next { Takes self.old result self.new }
+        ensures untimed { IfSome result (λ pending. is_in_time pending.source ≡ false) }
+    {
+        while self.at >= self.requests().len() {
+            if !self.advance() {
+                self.at = self.requests().len();
+                return None;
+            }
+            self.at = 0;
+        }
+        let (at, source) = (self.at, self.source);
+        let request = self.requests()[at];
+        self.at = at + 1;
+        Some(PendingRequest { source, request })
     }
 }

@@ -4,7 +4,8 @@ use crate::names::ItemKind;
 use crate::page::Page;
 use agc_clock::Clock;
 use agc_plan::Request;
-use agc_run::{Event, Scene, Source};
+use agc_run::{Event, Scene};
+use agc_session::Source;
 use agc_text::Field::{Json, Number, Octal, Priority, Seconds, Text};
 use agc_text::{Buffer, alarm_code, request_text};
 

@@ -1,9 +1,9 @@
 // The columns of rows, and the names in them.
 use crate::names::{ItemKind, Names};
 use agc_plan::{Phase, Task};
-use agc_run::{Source, Subject};
+use agc_run::Subject;
 use agc_scenario::Scenario;
-use agc_session::{count_requests, line_name};
+use agc_session::{Source, count_requests, line_name};
 use agc_table::width_of;
 use agc_text::Field::{Number, Octal, Seconds, Text};
 use agc_text::{Buffer, Field};
@@ -86,7 +86,7 @@ impl Columns {
     /// The name of the event that makes a request.
     pub(crate) fn event(&self, source: Source) -> Option<&str> {
         match source {
-            Source::Time(agc_clock::Source::Event(event)) => self.names.of(ItemKind::Event(event)),
+            Source::Event(event) => self.names.of(ItemKind::Event(event)),
             _ => None,
         }
     }
@@ -94,18 +94,14 @@ impl Columns {
     /// Adds who asks: an event by its name, or else by its number from 1.
     pub(crate) fn put_source(&self, buffer: &mut Buffer, source: Source) {
         match source {
-            Source::Bench(agc_session::Source::Script) => buffer.text("script"),
-            Source::Bench(agc_session::Source::Worker(number)) => {
-                buffer.fill("worker ", Number(number));
-            }
-            Source::Bench(agc_session::Source::Pulse(line)) => buffer.text(line_name(line)),
-            Source::Time(agc_clock::Source::Clock) => buffer.text("clock"),
-            Source::Time(agc_clock::Source::Event(event)) => {
-                match self.names.of(ItemKind::Event(event)) {
-                    None => buffer.fill("event ", Number(event.saturating_add(1) as u64)),
-                    Some(name) => put_joined(buffer, name),
-                }
-            }
+            Source::Script => buffer.text("script"),
+            Source::Worker(number) => buffer.fill("worker ", Number(number)),
+            Source::Pulse(line) => buffer.text(line_name(line)),
+            Source::Clock => buffer.text("clock"),
+            Source::Event(event) => match self.names.of(ItemKind::Event(event)) {
+                None => buffer.fill("event ", Number(event.saturating_add(1) as u64)),
+                Some(name) => put_joined(buffer, name),
+            },
         }
     }
 

@@ -9,7 +9,8 @@ use agc_clock::Clock;
 use agc_document::Bench;
 use agc_machine::Refusal;
 use agc_plan::{Reply, Request};
-use agc_run::{Event, ObservedMachine, Scene, Source};
+use agc_run::{Event, ObservedRun, Scene};
+use agc_session::Source;
 use agc_table::TableForm;
 use agc_text::Field::{Number, Text};
 use agc_text::Output;
@@ -123,16 +124,16 @@ impl Rows {
     }
 
     /// Keeps the scene before the next request, if the trace is brief.
-    fn keep_scene(&mut self, watched: &ObservedMachine) {
+    fn keep_scene(&mut self, run: &ObservedRun<'_>) {
         if self.choice.brief {
-            self.before = Some(watched.scene());
+            self.before = Some(run.scene());
         }
     }
 
     /// Adds the heading, and the outcome of power-up, if a bench has phase words.
-    pub fn begin(&mut self, watched: &ObservedMachine, bench: &Bench) {
-        self.keep_scene(watched);
-        let scene = watched.scene();
+    pub fn begin(&mut self, run: &ObservedRun<'_>, bench: &Bench) {
+        self.keep_scene(run);
+        let scene = run.scene();
         match self.choice.form {
             TraceFormat::Rows(_form) => {
                 self.page.put_heading(&scene);
@@ -155,13 +156,13 @@ impl Rows {
     }
 
     /// Adds the row of an event, or what a chart shows of it.
-    fn put_row_of(&mut self, watched: &ObservedMachine, source: Source, event: &Event) {
+    fn put_row_of(&mut self, run: &ObservedRun<'_>, source: Source, event: &Event) {
         match self.choice.form {
             TraceFormat::Rows(_form) => {
                 self.page
                     .put(TraceEntry::Request(source, event), &event.scene);
                 if self.page.table.is_text() {
-                    put_account(&mut self.page, watched.machine().plan(), event);
+                    put_account(&mut self.page, run.machine().plan(), event);
                 }
             }
             TraceFormat::Chart => self.chart.tell(&mut self.page, source, event),
@@ -170,7 +171,7 @@ impl Rows {
 
     /// Adds the row of a machine's last event, with its source and the account of its alarm, if it
     /// is chosen.
-    pub fn add(&mut self, watched: &ObservedMachine, source: Source, event: &Event) {
+    pub fn add(&mut self, run: &ObservedRun<'_>, source: Source, event: &Event) {
         self.count_refused(&event.answer);
         let place = if self.page.columns.has_seconds {
             event.total
@@ -183,10 +184,10 @@ impl Rows {
                 self.put_quiet(quiet);
             } else {
                 self.put_left();
-                self.put_row_of(watched, source, event);
+                self.put_row_of(run, source, event);
             }
         }
-        self.keep_scene(watched);
+        self.keep_scene(run);
     }
 
     /// Writes all that was added.

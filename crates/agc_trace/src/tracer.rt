@@ -2,14 +2,14 @@
 ghost use Rattle.std.specs.List.{fold};
 ghost use Rattle.agc_run.specs.Subjects.{own_requests, machine_of};
 ghost use Rattle.agc_run.specs.Events.{watched, watching_from};
-ghost use Rattle.agc_session.specs.Shown.{EndsIn};
+ghost use Rattle.agc_trace.specs.Shown.{EndsIn};
 
 use crate::columns::Columns;
 use crate::showing::{Shows, show};
 use crate::trace_rows::{Rows, TraceOptions};
 use agc_document::Bench;
-use agc_run::{Event, ObservedMachine, ObservedRun, Source, Subject};
-use agc_session::{Progress, RunFault, count_requests};
+use agc_run::{Event, ObservedRun, Subject};
+use agc_session::{Progress, RunFault, Source, count_requests};
 use agc_text::Output;
 use std::alloc::{AllocError, Global};
 use std::io::Write;
@@ -22,13 +22,13 @@ struct TraceWriter<'a> {
 }
 
 impl<'a> Shows for TraceWriter<'a> {
-    fn begin(&mut self, watched: &ObservedMachine) {
-        self.rows.begin(watched, self.bench);
+    fn begin(&mut self, run: &ObservedRun<'_>) {
+        self.rows.begin(run, self.bench);
     }
 
     fn show(&mut self, run: &ObservedRun<'_>, source: Source, event: Event) {
         self.rows.pass(&event.request, run.clock());
-        self.rows.add(run.watched(), source, &event);
+        self.rows.add(run, source, &event);
     }
 
     fn finish(&mut self) {
@@ -65,20 +65,20 @@ fn expect_counted<P: Progress>(subject: Subject<'_>, progress: &mut P) {
 /// Writes the trace of a bench or a scenario: the heading, and what came of power-up, where a bench
 /// has phase words; then its machine is asked for its requests in order, and for each that is
 /// chosen a row is written, with the scene of its event and the account of its alarm; and last how
-/// many requests were refused, and the devices whose pulses asked for nothing. Returns the machine
+/// many requests were refused, and the devices whose pulses asked for nothing. Returns the run
 /// after the last request. The writer is not flushed.
 ///
 /// # Errors
 ///
 /// `NoMemory`, and nothing was written. `Output` if a write failed, or took nothing of what was
 /// left, or there was no memory for a long row.
-pub fn trace<P: Progress, W: Write>(
+pub fn trace<'a, P: Progress, W: Write>(
     alloc: Global,
-    subject: Subject<'_>,
+    subject: Subject<'a>,
     choice: TraceOptions,
     progress: &mut P,
     writer: &mut W,
-) -> Result<ObservedMachine, RunFault>
+) -> Result<ObservedRun<'a>, RunFault>
     ensures { EndsIn
         (fold watched (watching_from (machine_of subject.entry)) (own_requests subject.entry))
         (W.contents writer.old) (W.contents writer.new) result }

@@ -8,7 +8,7 @@ use Rattle.agc_session.proofs.asking.ask_bench.Goals as goal
 
 pub loop-walk-init : goal.loop-walk-init
 loop-walk-init g c = record {
-  left = left_as (sym (pieces_ask c.args.bench.now) ∙ ap (flat_map piece_requests) (sym c.new-walk.ensures.all)) (all_left after line_written _ _ _);
+  left = left_as (sym (pieces_ask c.args.bench.now) ∙ ap (flat_map piece_requests) (sym c.new-walk.ensures.pieces)) (all_left after line_written _ _ _);
 }
 
 pub loop-walk-smaller : goal.loop-walk-smaller

@@ -1,7 +1,7 @@
 use Rattle.std.proofs.Common.{subst}
 use Rattle.agc_run.specs.Subjects.{machine_of, requests_of}
 use Rattle.agc_run.proofs.Following.{asked_on, its_requests}
-use Rattle.agc_session.specs.Shown.{EndsIn}
+use Rattle.agc_trace.specs.Shown.{EndsIn}
 use Rattle.agc_trace.proofs.tracer.trace.Goals as goal
 
 pub returns : goal.returns

@@ -4,7 +4,8 @@ use Rattle.agc_exec.specs.Image.{jobs_in}
 use Rattle.agc_clock.specs.Clocks.{AsksNext}
 use Rattle.agc_clock.specs.declared.asked.Asked.{Asked}
 use Rattle.agc_scenario.specs.Scenarios.{Timed, schedule_of}
-use Rattle.agc_run.specs.Runs.{Pending, all_to_ask, rest}
+use Rattle.agc_run.specs.Runs.{Pending, all_to_ask}
+use Rattle.agc_session.specs.Pieces.{rest}
 use Rattle.agc_run.proofs.Passing.{untimed, time_over, time_pulled}
 use Rattle.agc_run.proofs.pending_requests.PendingRequests.next_in_time.Goals as goal
 
@@ -33,4 +34,4 @@ returns-in-Some-asked-clause-pulls c m jobs =
     let table = schedule_of c.in-Some.timing.now c.self.inside.alarms in
     let asks : AsksNext table (jobs_in c.args.words.now) c.self.inside.clock (Some c.in-Some-asked.asked) c.next-asked.new.self =
     subst (λ (a : Option Asked). AsksNext table (jobs_in c.args.words.now) c.self.inside.clock a c.next-asked.new.self) c.in-Some-asked.is c.next-asked.ensures.next in
-    rw (← v) (time_pulled m c.self.inside.listed _ _ c.self.inside.alarms _ c.self.inside.clock c.next-asked.new.self c.in-Some-asked.asked some jobs over asks)
+    rw (c.source_in_time-source.ensures, ← v) (time_pulled m c.self.inside.listed _ _ c.self.inside.alarms _ c.self.inside.clock c.next-asked.new.self c.in-Some-asked.asked some jobs over asks)
