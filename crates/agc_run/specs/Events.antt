@@ -45,10 +45,12 @@ one_more_if is n = if is then one_more n else n
 
 -- the jobs and the tasks with which an era begins came with its beginning
 abbrev pub jobs_begun : (request : ℕ) → Scene → List Origin
-jobs_begun request scene = origins_after (record { request = request; restart = true }) [] scene.seats
+jobs_begun request scene =
+    origins_after (record { request = request; restart = true }) [] scene.seats
 
 abbrev pub tasks_begun : (request : ℕ) → Scene → List Listing
-tasks_begun request scene = listings_after (record { request = request; restart = true }) [] scene.waits
+tasks_begun request scene =
+    listings_after (record { request = request; restart = true }) [] scene.waits
 
 -- a machine that is watched: how many requests were asked, how many ticks were served since the era
 -- began, and since the start, and since which request each job and each task is there

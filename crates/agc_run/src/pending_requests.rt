@@ -132,7 +132,12 @@ impl<'a> PendingRequests<'a> {
     }
 
     /// Takes the outcome of the last request: the machine's words after it, and the answer.
-    pub(crate) fn served(&mut self, asked: &PendingRequest, words: &Erasable, answer: &Result<Reply, Refusal>)
+    pub(crate) fn served(
+        &mut self,
+        asked: &PendingRequest,
+        words: &Erasable,
+        answer: &Result<Reply, Refusal>,
+    )
         requires { IsLawfulWords words.now }
         ensures { self.new ≡ record self.old {
           alarms = alarms_with asked.now.source (alarm_with answer.now) self.old.clock.time

@@ -8,13 +8,17 @@ use Rattle.agc_plan.specs.declared.line.Line.{Line}
 use Rattle.agc_plan.specs.declared.line.Line.TheVariants.{Timer, Key, Radar}
 use Rattle.agc_plan.specs.declared.request.Action.{Action}
 use Rattle.agc_plan.specs.declared.request.Request.{Request}
-use Rattle.agc_plan.specs.Pulses.{pulse_requests}
+use Rattle.agc_plan.specs.Pulses.{pulse_requests, repeated}
 use Rattle.agc_document.specs.Benches.{Benched}
 use Rattle.agc_session.specs.declared.source.PendingRequest.{PendingRequest}
 use Rattle.agc_session.specs.declared.source.Source.{Source}
 use Rattle.agc_session.specs.declared.source.Source.TheVariants.{Script, Worker}
 use Rattle.agc_session.specs.Pieces.{Piece, Walked, asks_in, bench_pieces, device_pieces, pulse_asks, pulse_piece, rest, script_piece, to_come, worker_pieces}
-use Rattle.agc_session.specs.Runs.{bench_plan, bench_requests, device_requests}
+use Rattle.agc_session.specs.Runs.{bench_plan, bench_requests}
+
+-- the requests of a device
+abbrev device_requests : Benched → Line × ℕ → List Request
+device_requests bench device = repeated (pulse_requests (bench_plan bench) device.0) device.1
 
 -- a request with its source
 abbrev pub by_source : Source → Request → PendingRequest

@@ -25,7 +25,7 @@ pub record Piece : Type 0 where
 
 -- its requests, each with their source
 abbrev pub asks_in : Piece → List PendingRequest
-asks_in piece = map (λ request. record { source = piece.source; request = request }) piece.requests
+asks_in piece = map (λ asked. record { source = piece.source; request = asked }) piece.requests
 
 -- the workers' pieces, from this number on
 abbrev pub worker_pieces : ℕ → List (List Request) → List Piece

@@ -1,5 +1,6 @@
 -- The machines of a script and of a bench, and what they are asked for.
-use Rattle.std.specs.Prelude.{ℕ, ◌==◌, ◌&&◌, nat_le, Bool, List, [], ◌++◌, Option, Some, None}
+use Rattle.std.specs.Prelude.{ℕ, ◌==◌, ◌&&◌, nat_le, Bool, List, [], ◌++◌, Option}
+use Rattle.std.specs.Option.{option_map_or}
 use Rattle.std.specs.List.{flat_map, list_all, range_with_len}
 use Rattle.agc_word.specs.Words.{complement}
 use Rattle.agc_plan.specs.declared.request.Request.{Request}
@@ -8,7 +9,6 @@ use Rattle.agc_plan.specs.Plans.{Written, Planned, planned_with}
 use Rattle.agc_phase.specs.Image.{minus_in, phase_in}
 use Rattle.agc_machine.specs.Machines.{Machined, begun_with}
 use Rattle.agc_phase.specs.Image.{power_base}
-use Rattle.agc_plan.specs.declared.line.Line.{Line}
 use Rattle.agc_plan.specs.Pulses.{pulse_requests, repeated}
 use Rattle.agc_document.specs.Benches.{Benched}
 
@@ -25,13 +25,11 @@ pairs_agree words = list_all (λ group. (minus_in words group == complement (pha
 
 -- with what a bench's machine begins: as power comes back with these words, or else afresh
 abbrev pub bench_base : Option (List ℕ) → Base
-bench_base None = fresh_base
-bench_base (Some words) = power_base (pairs_agree words) words
+bench_base power = option_map_or (λ words. power_base (pairs_agree words) words) power fresh_base
 
 -- the plan of a bench
 abbrev pub plan_of : Benched → Written
-plan_of bench = record
-    { rows = bench.rows; entries = bench.entries; key = bench.key; radar = bench.radar }
+plan_of b = record { rows = b.rows; entries = b.entries; key = b.key; radar = b.radar }
 
 -- the plan of a bench, with its number of core sets
 abbrev pub bench_plan : Benched → Planned
@@ -46,12 +44,9 @@ machine_on sets bench = begun_with (planned_with (plan_of bench) sets) bench.lim
 unfoldable pub bench_machine : Benched → Machined
 bench_machine bench = machine_on bench.sets bench
 
--- the requests of a device: all for which each of its pulses asks, one pulse after the other
-abbrev pub device_requests : Benched → Line × ℕ → List Request
-device_requests bench device = repeated (pulse_requests (bench_plan bench) device.0) device.1
-
--- the requests of a bench: its script, then each worker's, then each device's, in order
+-- the requests of a bench: its script, then each worker's, then each device's, in order: all for
+-- which each of its pulses asks, one pulse after the other
 unfoldable pub bench_requests : Benched → List Request
-bench_requests bench = bench.script
-    ++ (flat_map (λ requests. requests) bench.workers
-    ++ flat_map (device_requests bench) bench.devices)
+bench_requests bench = bench.script ++ (flat_map (λ requests. requests) bench.workers
+    ++ flat_map (λ device. repeated (pulse_requests (bench_plan bench) device.0) device.1)
+    bench.devices)

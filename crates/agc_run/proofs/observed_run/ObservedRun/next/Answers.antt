@@ -27,7 +27,7 @@ returns-in-Some c =
     let pending : new.pending ≡ asks_after m left q = c.serve-event.ensures.pending ∙ ap (λ (x : Machined). asks_after x left q) same in
     let then : all_to_ask new.watching.machine new.pending ≡ all_to_ask (after m q.request) (asks_after m left q) = ap (λ (w : Watching). all_to_ask w.machine new.pending) watching ∙ ap (all_to_ask (after m q.request)) pending in (
       ap (λ (r : WatchingRun). all_to_ask r.watching.machine r.pending) (sym v) ∙ pulls ∙ ap (λ (xs : List PendingRequest). q ∷ xs) (sym then)
-      ∙ ap (λ (r : Request). record { source = q.source; request = r } ∷ all_to_ask new.watching.machine new.pending) its,
+          ∙ ap (λ (r : Request). record { source = q.source; request = r } ∷ all_to_ask new.watching.machine new.pending) its,
       event ∙ ap (event_of old) its ∙ ap (λ (r : WatchingRun). event_of r.watching c.serve-event.result.request) v,
       watching ∙ ap (watched old) its ∙ ap (λ (r : WatchingRun). watched r.watching c.serve-event.result.request) v,
     )
