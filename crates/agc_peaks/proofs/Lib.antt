@@ -1,4 +1,10 @@
+mod Counting
 mod Eras
+mod JobRuns
 mod Lives
 mod Occupancies
+mod Released
+mod Rows
 mod Runs
+mod Snapshots
+mod States

@@ -12,6 +12,8 @@ use Rattle.agc_plan.specs.declared.request.Request.{Request}
 use Rattle.agc_plan.specs.declared.request.Request.TheVariants.{Fresh, Restart}
 use Rattle.agc_plan.specs.Seats.{places_acted}
 use Rattle.agc_plan.specs.Steps.{acted, begins}
+use Rattle.agc_plan.specs.Tasks.{Waiting}
+use Rattle.agc_exec.specs.Seats.{seats_in}
 use Rattle.agc_exec.specs.declared.seats.Seat.{Seat}
 use Rattle.agc_machine.specs.declared.answer.Refusal.{Refusal}
 use Rattle.agc_machine.specs.Image.{IsImage}
@@ -27,7 +29,7 @@ use Rattle.agc_peaks.specs.Runs.{occupancy_now}
 use Rattle.agc_peaks.specs.declared.occupancy.Occupancy.{Occupancy}
 
 -- one core set more
-next_seat : (seats : List (Option Seat)) (k : ℕ) (seat : Option Seat) → slice_get seats k ≡ Some seat → drop k seats ≡ seat ∷ drop (k + 1) seats
+pub next_seat : (seats : List (Option Seat)) (k : ℕ) (seat : Option Seat) → slice_get seats k ≡ Some seat → drop k seats ≡ seat ∷ drop (k + 1) seats
 next_seat seats k seat is = next_is seats k seat (slice_get_within seats k seat is) (sym (get_or_from_slice_get seats k seat seat is))
 
 pub counted_on : (p : Option Seat → Bool) (seats : List (Option Seat)) (k : ℕ) (seat : Option Seat) (old n new total : ℕ) → slice_get seats k ≡ Some seat → n ≡ cond (p seat) 1 0 → new ≡ min (old + n) (2 ^ 64 - 1) → old ≤ 8 → old + count_by p (drop k seats) ≡ total → new + count_by p (drop (k + 1) seats) ≡ total
@@ -63,8 +65,12 @@ started m asked e = scene_by m asked true (ap (λ (b : Bool). is_some (refusal_o
 refused : (m : Machined) (asked : Request) (refusal : Refusal) → refusal_of m asked ≡ Some refusal → scene_at m asked ≡ scene_now m
 refused m asked refusal e = scene_by m asked true (ap (λ (o : Option Refusal). is_some o || starts_over asked) e)
 
--- a restart and a fresh start leave jobs and tasks
-same_tables : (m : Machined) (asked : Request) → starts_over asked ≡ true → occupancy_of (scene_of (acted m.plan asked (plain_of m)).plain (places_acted m.plan asked (plain_of m) (places_of m))) ≡ occupancy_of (scene_now m)
+-- the tables of jobs and tasks, and the running job
+abbrev tables_of : Scene → List (Option Seat) × List Waiting × Option ℕ
+tables_of scene = (scene.seats, scene.waits, scene.running)
+
+-- a restart and a fresh start leave them
+same_tables : (m : Machined) (asked : Request) → starts_over asked ≡ true → tables_of (scene_of (acted m.plan asked (plain_of m)).plain (places_acted m.plan asked (plain_of m) (places_of m))) ≡ tables_of (scene_now m)
 same_tables m Restart e = refl
 same_tables m Fresh e = refl
 same_tables m asked e = absurd (let no : false ≡ true = e in cc)
@@ -77,14 +83,14 @@ none_before : (m : Machined) (asked : Request) → starts_over asked ≡ false �
 none_before m asked e = rw e refl
 
 -- an era begins with it
-as_begun : (m : Machined) (asked : Request) (now : Machined) (answer : Result Reply Refusal) (moment : Acting) → IsServed m asked now answer moment → begins_with answer ≡ true → (b : Bool) → starts_over asked ≡ b → occupancy_of (scene_in moment.words) ≡ occupancy_of (scene_at m asked)
+as_begun : (m : Machined) (asked : Request) (now : Machined) (answer : Result Reply Refusal) (moment : Acting) → IsServed m asked now answer moment → begins_with answer ≡ true → (b : Bool) → starts_over asked ≡ b → tables_of (scene_in moment.words) ≡ tables_of (scene_at m asked)
 as_begun m asked now answer moment is begun true e =
     let at : IsMoment m asked moment = kept_is m asked answer moment begun is.kept in
-    ap occupancy_of (scene_is moment.words (acted m.plan asked (plain_of m)).plain (places_acted m.plan asked (plain_of m) (places_of m)) at.tables.cores at.stands at.placed)
+    ap tables_of (scene_is moment.words (acted m.plan asked (plain_of m)).plain (places_acted m.plan asked (plain_of m) (places_of m)) at.tables.cores at.stands at.placed)
     ∙ same_tables m asked e
-    ∙ ap occupancy_of (sym (started m asked e))
+    ∙ ap tables_of (sym (started m asked e))
 as_begun m asked now answer moment is begun false e =
-    ap occupancy_of (shown_kept m asked None now answer moment refl (none_before m asked e) is begun)
+    ap tables_of (shown_kept m asked None now answer moment refl (none_before m asked e) is begun)
 
 -- none does
 vacuous : (m : Machined) (asked : Request) (answer : Result Reply Refusal) (moment : Acting) → begins_with answer ≡ false → IfOk answer (λ reply. begins reply ≡ true → IsMoment m asked moment)
@@ -110,13 +116,25 @@ pub went_on : (m : Machined) (asked : Request) → begins_with (answer_of m aske
 went_on m asked goes = by_start m asked goes (starts_over asked) refl
 
 -- the words in which a request was answered
-pub left_is : (m : Machined) (asked : Request) (now : Machined) (answer : Result Reply Refusal) (moment : Acting) (words : List ℕ) → IsServed m asked now answer moment → (begins_with answer ≡ true → words ≡ moment.words) → (begins_with answer ≡ false → IsImage now words) → occupancy_of (scene_in words) ≡ occupancy_of (scene_at m asked)
-left_is m asked now answer moment words is begun goes = go (begins_with answer) refl where
-  go : (b : Bool) → begins_with answer ≡ b → occupancy_of (scene_in words) ≡ occupancy_of (scene_at m asked)
-  go true e = ap (λ (w : List ℕ). occupancy_of (scene_in w)) (begun e) ∙ as_begun m asked now answer moment is e (starts_over asked) refl
+left_tables : (m : Machined) (asked : Request) (now : Machined) (answer : Result Reply Refusal) (moment : Acting) (words : List ℕ) → IsServed m asked now answer moment → (begins_with answer ≡ true → words ≡ moment.words) → (begins_with answer ≡ false → IsImage now words) → tables_of (scene_in words) ≡ tables_of (scene_at m asked)
+left_tables m asked now answer moment words is begun goes = go (begins_with answer) refl where
+  go : (b : Bool) → begins_with answer ≡ b → tables_of (scene_in words) ≡ tables_of (scene_at m asked)
+  go true e = ap (λ (w : List ℕ). tables_of (scene_in w)) (begun e) ∙ as_begun m asked now answer moment is e (starts_over asked) refl
   go false e =
-      ap occupancy_of (scene_now_is now words (goes e) ∙ ap scene_now is.now_is
+      ap tables_of (scene_now_is now words (goes e) ∙ ap scene_now is.now_is
       ∙ went_on m asked (sym (ap begins_with is.answer_is) ∙ e))
+
+pub left_is : (m : Machined) (asked : Request) (now : Machined) (answer : Result Reply Refusal) (moment : Acting) (words : List ℕ) → IsServed m asked now answer moment → (begins_with answer ≡ true → words ≡ moment.words) → (begins_with answer ≡ false → IsImage now words) → occupancy_of (scene_in words) ≡ occupancy_of (scene_at m asked)
+left_is m asked now answer moment words is begun goes =
+    ap (λ (t : List (Option Seat) × List Waiting × Option ℕ). record { sets = count_by is_some t.0; areas = count_by owns_area t.0; tasks = length t.1; runs = is_some t.2 })
+    (left_tables m asked now answer moment words is begun goes)
+
+pub left_seats : (m : Machined) (asked : Request) (now : Machined) (answer : Result Reply Refusal) (moment : Acting) (words : List ℕ) → IsServed m asked now answer moment → (begins_with answer ≡ true → words ≡ moment.words) → (begins_with answer ≡ false → IsImage now words) → seats_in words ≡ (scene_at m asked).seats
+left_seats m asked now answer moment words is begun goes =
+    ap (λ (t : List (Option Seat) × List Waiting × Option ℕ). t.0) (left_tables m asked now answer moment words is begun goes)
+
+pub seats_now : (m : Machined) (words : List ℕ) → IsImage m words → seats_in words ≡ (scene_now m).seats
+seats_now m words image = ap (λ (s : Scene). s.seats) (scene_now_is m words image)
 
 -- all core sets
 pub all_counted : (p : Option Seat → Bool) (seats : List (Option Seat)) (k n : ℕ) → length seats ≤ k → n + count_by p (drop k seats) ≡ count_by p seats → n ≡ count_by p seats

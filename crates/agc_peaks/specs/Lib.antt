@@ -1,5 +1,10 @@
+pub mod Addresses
 pub mod Boundaries
 pub mod Eras
+pub mod Followed
+pub mod Following
+pub mod JobRuns
+pub mod JobStates
 pub mod Lives
 pub mod Occupancies
 pub mod Runs

@@ -1,31 +1,16 @@
 //! The statistics of the jobs of an address.
-ghost use Rattle.std.specs.Prelude.{◌≡◌, ◌-◌, List, [], ◌∷◌, ◌++◌, OnOk, if◌then◌else◌};
-ghost use Rattle.agc_peaks.specs.Lives.{IsAddress, earliest, is_end, missed_by, response_of};
-ghost use Rattle.agc_peaks.specs.Lives.{responses_of};
-ghost use Rattle.agc_peaks.specs.declared.address_statistics.Gone.{Gone};
+ghost use Rattle.std.specs.Prelude.{◌≡◌, ◌+◌, ◌-◌, ℕ, List, [], ◌∷◌, ◌++◌, OnOk, if◌then◌else◌};
+ghost use Rattle.agc_peaks.specs.Addresses.{IsAddress, earliest, is_end, missed_by};
+ghost use Rattle.agc_peaks.specs.Addresses.{responses_of};
+ghost use Rattle.agc_peaks.specs.Eras.{counted};
+ghost use Rattle.agc_peaks.specs.declared.live_jobs.JobLife.{JobLife};
 
-use crate::live_jobs::{Instant, LiveJob};
+use crate::live_jobs::{End, FineTime, JobLife};
 use crate::occupancy::one_if;
 use std::alloc::{AllocError, Global};
 
-/// How a job is gone: it ended, was lost as an era began, or is alive at the end of the run.
-#[derive(Clone, Copy, PartialEq, Eq)]
-pub(crate) enum End {
-    Ended,
-    Lost,
-    Alive,
-}
-
-/// A job that is gone, and when and how.
-#[derive(Clone, Copy)]
-pub(crate) struct Gone {
-    pub(crate) job: LiveJob,
-    pub(crate) time: Instant,
-    pub(crate) end: End,
-}
-
-impl Gone {
-    /// This number if it went so, else 0.
+impl JobLife {
+    /// This number if it was over like this, else 0.
     fn if_by(&self, end: End, number: u64) -> u64
         ensures { result ≡ (if is_end end self.now then number else 0) }
     {
@@ -36,20 +21,20 @@ impl Gone {
     }
 
     /// When it had to end, if it has a deadline and missed it.
-    fn missed_deadline(&self, deadline: Option<u64>) -> Option<Instant>
+    fn missed_deadline(&self, deadline: Option<u64>) -> Option<FineTime>
         ensures { result ≡ missed_by deadline self.now }
     {
         let deadline = match deadline {
             None => return None,
             Some(deadline) => deadline,
         };
-        let due = self.job.began.saturating_add(deadline);
+        let due = self.job.released.saturating_add(deadline);
         if self.time > due { Some(due) } else { None }
     }
 }
 
-/// The earlier of two moments.
-fn earliest(one: Option<Instant>, other: Option<Instant>) -> Option<Instant>
+/// The earlier of two times.
+fn earliest(one: Option<FineTime>, other: Option<FineTime>) -> Option<FineTime>
     ensures { result ≡ earliest one other }
 {
     match (one, other) {
@@ -60,50 +45,51 @@ fn earliest(one: Option<Instant>, other: Option<Instant>) -> Option<Instant>
 }
 
 /// Adds the response time of a job that ended.
-fn note_response(responses: &mut Vec<u64>, gone: &Gone) -> Result<(), AllocError>
+fn note_response(responses: &mut Vec<u64>, life: &JobLife) -> Result<(), AllocError>
     ensures { OnOk result (responses.new.items
-        ≡ responses.old.items ++ responses_of (gone.now ∷ [])) }
+        ≡ responses.old.items ++ responses_of (life.now ∷ [])) }
 {
-    match gone.end {
-        End::Ended => responses.push(gone.time.saturating_sub(gone.job.began))?,
+    match life.end {
+        End::Ended => responses.push(life.time.saturating_sub(life.job.released))?,
         End::Lost | End::Alive => {}
     }
     Ok(())
 }
 
-/// The jobs of an address: how many began, were lost as an era began, and live at the end; how
-/// often another job took over from one; the computing time of all; of those that ended, the
-/// time from where they began to where they ended, and how much of it they computed and slept; how
+/// The jobs of an address: how many were released, were lost as an era began, and live at the end;
+/// how often one was preempted; the computing time of all; of those that ended, the
+/// time from their release to their end, and how much of it they computed and slept; how
 /// long one may take, if there is a deadline, how many missed it, and when the first did. Times are
 /// hundredths of a centisecond.
 #[derive(Drop)]
 pub(crate) struct AddressStatistics {
     pub(crate) at: u16,
-    pub(crate) began: u64,
+    pub(crate) released: u64,
     pub(crate) lost: u64,
     pub(crate) alive: u64,
-    pub(crate) taken_over: u64,
+    pub(crate) preempted: u64,
     pub(crate) computed: u64,
     pub(crate) responses: Vec<u64>,
     pub(crate) computed_to_end: u64,
     pub(crate) slept_to_end: u64,
     pub(crate) deadline: Option<u64>,
     pub(crate) missed: u64,
-    pub(crate) first_missed: Option<Instant>,
+    pub(crate) first_missed: Option<FineTime>,
 }
 
 impl AddressStatistics {
-    /// The statistics of an address none of whose jobs has begun yet.
+    /// The statistics of an address none of whose jobs has been released yet.
     pub(crate) fn at(alloc: Global, at: u16, deadline: Option<u64>) -> AddressStatistics
         ensures none { IsAddress [] result }
-        ensures address { (result.at ≡ at) × ((result.began ≡ 0) × (result.deadline ≡ deadline)) }
+        ensures address { (result.at ≡ at)
+            × ((result.released ≡ 0) × (result.deadline ≡ deadline)) }
     {
         AddressStatistics {
             at,
-            began: 0,
+            released: 0,
             lost: 0,
             alive: 0,
-            taken_over: 0,
+            preempted: 0,
             computed: 0,
             responses: Vec::new(alloc),
             computed_to_end: 0,
@@ -114,25 +100,32 @@ impl AddressStatistics {
         }
     }
 
-    /// Adds a job that is gone.
-    pub(crate) fn leave(&mut self, gone: &Gone) -> Result<(), AllocError>
-        ensures counts { OnOk result ((all : List Gone) → IsAddress all self.old
-            → IsAddress (all ++ gone.now ∷ []) self.new) }
-        ensures stays { (self.new.at ≡ self.old.at) × ((self.new.began ≡ self.old.began)
+    /// Counts a release.
+    pub(crate) fn release(&mut self)
+        ensures { self.new ≡ record self.old { released = counted (self.old.released + 1) } }
+    {
+        self.released = self.released.saturating_add(1);
+    }
+
+    /// Adds a life that is over.
+    pub(crate) fn leave(&mut self, life: &JobLife) -> Result<(), AllocError>
+        ensures counts { OnOk result ((all : List JobLife) → IsAddress all self.old
+            → IsAddress (all ++ life.now ∷ []) self.new) }
+        ensures stays { (self.new.at ≡ self.old.at) × ((self.new.released ≡ self.old.released)
             × (self.new.deadline ≡ self.old.deadline)) }
     {
-        let job = &gone.job;
-        self.lost = self.lost.saturating_add(gone.if_by(End::Lost, 1));
-        self.alive = self.alive.saturating_add(gone.if_by(End::Alive, 1));
-        self.taken_over = self.taken_over.saturating_add(job.taken_over);
+        let job = &life.job;
+        self.lost = self.lost.saturating_add(life.if_by(End::Lost, 1));
+        self.alive = self.alive.saturating_add(life.if_by(End::Alive, 1));
+        self.preempted = self.preempted.saturating_add(job.preempted);
         self.computed = self.computed.saturating_add(job.computed);
-        let computed = gone.if_by(End::Ended, job.computed);
-        let slept = gone.if_by(End::Ended, job.slept);
+        let computed = life.if_by(End::Ended, job.computed);
+        let slept = life.if_by(End::Ended, job.slept);
         self.computed_to_end = self.computed_to_end.saturating_add(computed);
         self.slept_to_end = self.slept_to_end.saturating_add(slept);
-        let missed = gone.missed_deadline(self.deadline);
+        let missed = life.missed_deadline(self.deadline);
         self.missed = self.missed.saturating_add(one_if(missed.is_some()));
         self.first_missed = earliest(self.first_missed, missed);
-        note_response(&mut self.responses, gone)
+        note_response(&mut self.responses, life)
     }
 }

@@ -1,40 +1,74 @@
 //! The statistics of a run's jobs.
-ghost use Rattle.std.specs.Prelude.{◌≡◌, OnOk};
+ghost use Rattle.std.specs.Prelude.{◌≡◌, ◌&&◌, not, List, Some, None, OnOk, is_some};
+ghost use Rattle.std.specs.Prelude.{if◌then◌else◌};
 ghost use Rattle.std.specs.List.{fold};
-ghost use Rattle.agc_machine.specs.Machines.{after};
+ghost use Rattle.std.specs.Result.{is_ok};
+ghost use Rattle.agc_machine.specs.Machines.{after, begins_with};
+ghost use Rattle.agc_plan.specs.Steps.{is_tick};
+ghost use Rattle.agc_run.specs.Events.{scene_now};
 ghost use Rattle.agc_run.specs.Runs.{to_ask};
+ghost use Rattle.agc_peaks.specs.Followed.{AreFollowed};
+ghost use Rattle.agc_peaks.specs.JobRuns.{AreOfRun};
+ghost use Rattle.agc_peaks.specs.JobStates.{states_in};
+ghost use Rattle.agc_peaks.specs.declared.live_jobs.Snapshot.{Snapshot};
 
-use crate::job_statistics::JobStatistics;
+use crate::job_statistics::{JobStatistics, Passed};
 use crate::jobs_rows::put_jobs;
-use crate::live_jobs::jobs_in;
+use crate::live_jobs::{End, JobStates, MOST, jobs_in};
 use crate::running::send_table;
-use agc_plan::Request;
+use agc_machine::{Machine, Refusal};
+use agc_plan::{Reply, Request};
 use agc_run::{Run, Subject};
 use agc_session::RunFault;
 use agc_table::{Table, TableForm};
 use std::alloc::{AllocError, Global};
 use std::io::Write;
 
-/// Makes all requests of a run, in order, and no others, and follows its jobs.
-fn jobs_to_end(job_statistics: &mut JobStatistics<'_>, run: &mut Run<'_>) -> Result<(), AllocError>
-    ensures { OnOk result (run.new.machine
-        ≡ fold after run.old.machine (to_ask run.old.machine run.old.pending)) }
+/// Whether time passes with a request: without a clock, with a tick that was served.
+fn ticks(has_clock: bool, request: &Request, answer: &Result<Reply, Refusal>) -> bool
+    ensures { result ≡ (not has_clock && (is_tick request.now && is_ok answer.now)) }
 {
-    while let Some(asked) = run.next() {
-        job_statistics.pass(run.elapsed(), run.clock());
-        let answer = run.ask(&asked);
-        if let Ok(reply) = &answer {
-            if run.clock().is_none() && asked.request == Request::Tick {
-                job_statistics.pass_tick();
-            }
-            job_statistics.update(&jobs_in(run.words_left(&answer)))?;
+    !has_clock && (request.is_tick() && answer.is_ok())
+}
+
+/// The jobs of the era that began with a request, if one did.
+fn jobs_of_era(machine: &Machine, answer: &Result<Reply, Refusal>) -> Option<JobStates>
+    ensures { result ≡ (if begins_with answer.now
+        then Some (states_in (scene_now machine.now).seats) else None) }
+{
+    match answer {
+        Err(_refusal) => None,
+        Ok(reply) => {
             if reply.begins() {
-                job_statistics.begin_era(&jobs_in(run.machine().erasable()))?;
+                Some(jobs_in(machine.erasable()))
+            } else {
+                None
             }
         }
     }
-    job_statistics.pass(run.elapsed(), run.clock());
-    job_statistics.close()
+}
+
+/// Makes all requests of a run, in order, and no others, and follows its jobs.
+fn jobs_to_end(job_statistics: &mut JobStatistics<'_>, run: &mut Run<'_>) -> Result<(), AllocError>
+    ensures machine { OnOk result (run.new.machine
+        ≡ fold after run.old.machine (to_ask run.old.machine run.old.pending)) }
+    ensures followed { OnOk result ((history : List Snapshot)
+        → AreFollowed history job_statistics.old
+        → AreOfRun (is_some job_statistics.old.timing) history run.old.machine run.old.pending
+        job_statistics.new) }
+{
+    while let Some(call) = run.next() {
+        let elapsed = run.elapsed();
+        let answer = run.ask(&call);
+        let ticks = ticks(job_statistics.has_clock(), &call.request, &answer);
+        job_statistics.pass(elapsed, run.clock(), ticks);
+        let left = jobs_in(run.words_left(&answer));
+        let era = jobs_of_era(run.machine(), &answer);
+        job_statistics.serve(Passed::by(elapsed, ticks), &left, era)?;
+    }
+    let elapsed = run.elapsed();
+    job_statistics.pass(elapsed, run.clock(), false);
+    job_statistics.see(Passed::by(elapsed, false), End::Alive, &[None; MOST])
 }
 
 /// The statistics of the jobs of a bench or a scenario.
@@ -45,10 +79,9 @@ pub(crate) fn job_statistics_of<'a>(
     let mut run = subject.run(alloc)?;
     let jobs = jobs_in(run.machine().erasable());
     let mut job_statistics = JobStatistics::new(alloc, subject.timing(), &jobs)?;
-    match jobs_to_end(&mut job_statistics, &mut run) {
-        Ok(()) => Ok(job_statistics),
-        Err(_no_memory) => Err(RunFault::NoMemory),
-    }
+    jobs_to_end(&mut job_statistics, &mut run)?;
+    job_statistics.sort()?;
+    Ok(job_statistics)
 }
 
 /// Runs a bench or a scenario, and writes for the jobs of each address how many began, ended, were

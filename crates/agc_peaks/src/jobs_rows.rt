@@ -62,7 +62,7 @@ pub(crate) fn fill_times(row: &mut Row, jobs: &AddressStatistics, time: Option<u
     let times = jobs.responses.as_slice();
     let mean = mean_of(jobs);
     let (least, most) = (times.first().copied(), times.last().copied());
-    row.cell(right("began", "began", 5), Number(jobs.began));
+    row.cell(right("began", "began", 5), Number(jobs.released));
     row.cell(right("ended", "ended", 5), Number(times.len() as u64));
     row.cell(right("lost", "lost", 5), Number(jobs.lost));
     row.cell(right("alive", "alive", 5), Number(jobs.alive));
@@ -81,8 +81,8 @@ pub(crate) fn fill_times(row: &mut Row, jobs: &AddressStatistics, time: Option<u
     row.option(right("waiting", "waiting", 7), waited);
     let slept = mean.map(|mean| seconds(mean.slept));
     row.option(right("sleeping", "sleeping", 8), slept);
-    let taken_over = Number(jobs.taken_over);
-    row.cell(right("taken over", "taken_over", 10), taken_over);
+    let preempted = Number(jobs.preempted);
+    row.cell(right("taken over", "taken_over", 10), preempted);
     let share = right("share", "share", 6);
     match time {
         None => row.option(share, None),
@@ -155,10 +155,10 @@ fn put_rows(table: &mut Table, statistics: &JobStatistics<'_>, timing: Option<&T
     let has_deadline = statistics.rows.iter().any(|row| row.deadline.is_some());
     let look = Look {
         width: name_width(statistics, timing, table.form),
-        time: timing.map(|_timing| statistics.now),
+        time: timing.map(|_timing| statistics.instant),
         has_deadline: has_deadline || !table.is_text(),
     };
-    fill(&mut table.row, look, &statistics.none(), None);
+    fill(&mut table.row, look, &statistics.no_address(), None);
     table.end_heading();
     for row in statistics.rows.iter() {
         fill(&mut table.row, look, row, name_at(timing, row.at));

@@ -3,6 +3,7 @@
 #![tactic(auto)]
 
 mod address_statistics;
+mod addresses;
 mod comparing;
 mod computed_by_job;
 mod era;

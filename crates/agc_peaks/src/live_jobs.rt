@@ -1,5 +1,13 @@
-//! The jobs that are alive, and how each of them ends.
+//! The jobs that are alive, and how the life of each is over.
+ghost use Rattle.std.specs.Prelude.{◌≡◌, ℕ, ◌+◌, ◌<◌, List, ◌∷◌, None, length, option_map};
+ghost use Rattle.std.specs.Prelude.{slice_index_or, if◌then◌else◌};
+ghost use Rattle.std.specs.Option.{option_or};
 ghost use Rattle.agc_word.specs.Layout.{IsSized};
+ghost use Rattle.agc_exec.specs.Seats.{seats_in};
+ghost use Rattle.agc_peaks.specs.JobStates.{activity_of, states_in, state_here};
+ghost use Rattle.agc_peaks.specs.Lives.{alive_job, gone, is_same_activity, release_in, state_in};
+ghost use Rattle.agc_peaks.specs.Following.{gone_on, released_with};
+ghost use Rattle.agc_peaks.specs.declared.live_jobs.Snapshot.{Snapshot};
 
 use agc_exec::{Seat, job_at};
 use agc_word::Erasable;
@@ -7,83 +15,164 @@ use agc_word::Erasable;
 /// The most jobs that can be alive.
 pub(crate) const MOST: usize = 8;
 
-/// A moment of a run, in hundredths of a centisecond since its start.
-pub(crate) type Instant = u64;
+/// A time of a run, in hundredths of a centisecond since its start.
+pub(crate) type FineTime = u64;
 
 /// The state of a job: it runs in core set 0, waits in another, or sleeps.
-#[derive(Clone, Copy, PartialEq, Eq)]
+#[derive(Clone, Copy)]
 pub(crate) enum Activity {
     Runs,
     Waits,
     Sleeps,
 }
 
-/// A job that is alive: the address at which it began, its state and since when; its computing time
-/// and the time that it slept, in hundredths of a centisecond; and how often another job took over
-/// from it.
+/// A job as the words show it: its address, and its state.
+#[derive(Clone, Copy)]
+pub(crate) struct JobState {
+    pub(crate) at: u16,
+    pub(crate) activity: Activity,
+}
+
+/// The jobs by their numbers from 1.
+pub(crate) type JobStates = [Option<JobState>; MOST];
+
+/// How the life of a job is over: it ended, was lost as an era began, or is alive at the end of the
+/// run.
+#[derive(Clone, Copy)]
+pub(crate) enum End {
+    Ended,
+    Lost,
+    Alive,
+}
+
+/// The jobs by their numbers at a time of a run; how much time passed since the snapshot before,
+/// and how much of it was computed; and how the lives are over of those jobs that were alive in
+/// that snapshot and aren't in this one.
+#[derive(Clone, Copy)]
+pub(crate) struct Snapshot {
+    pub(crate) time: FineTime,
+    pub(crate) passed: u64,
+    pub(crate) computed: u64,
+    pub(crate) end: End,
+    pub(crate) jobs: JobStates,
+}
+
+/// A job that is alive: the address at which it was released, and when; its state; its computing
+/// time and the time that it slept, in hundredths of a centisecond; and how often it was preempted.
 #[derive(Clone, Copy)]
 pub(crate) struct LiveJob {
     pub(crate) at: u16,
     pub(crate) activity: Activity,
-    pub(crate) began: Instant,
-    pub(crate) since: Instant,
+    pub(crate) released: FineTime,
     pub(crate) computed: u64,
     pub(crate) slept: u64,
-    pub(crate) taken_over: u64,
+    pub(crate) preempted: u64,
+}
+
+/// The life of a job, and when and how it was over.
+#[derive(Clone, Copy)]
+pub(crate) struct JobLife {
+    pub(crate) job: LiveJob,
+    pub(crate) time: FineTime,
+    pub(crate) end: End,
+}
+
+/// This number if both states are the same, else 0.
+fn if_same(one: Activity, other: Activity, number: u64) -> u64
+    ensures { result ≡ (if is_same_activity one other then number else 0) }
+{
+    match (one, other) {
+        (Activity::Runs, Activity::Runs)
+        | (Activity::Waits, Activity::Waits)
+        | (Activity::Sleeps, Activity::Sleeps) => number,
+        _ => 0,
+    }
 }
 
 impl LiveJob {
-    /// A job that begins.
-    fn begin(at: u16, activity: Activity, now: Instant) -> LiveJob {
+    /// A job that is released.
+    fn release(job_state: JobState, time: FineTime) -> LiveJob
+        ensures { result ≡ released_with job_state time }
+    {
         LiveJob {
-            at,
-            activity,
-            began: now,
-            since: now,
+            at: job_state.at,
+            activity: job_state.activity,
+            released: time,
             computed: 0,
             slept: 0,
-            taken_over: 0,
+            preempted: 0,
         }
     }
 
-    /// Adds computing time to the running job.
-    pub(crate) fn compute(&mut self, computed: u64) {
-        if self.activity == Activity::Runs {
-            self.computed = self.computed.saturating_add(computed);
-        }
-    }
-
-    /// Changes the state, from now on.
-    fn turn(&mut self, activity: Activity, now: Instant) {
-        match (self.activity, activity) {
-            (Activity::Sleeps, Activity::Runs | Activity::Waits) => {
-                let slept = now.saturating_sub(self.since);
-                self.slept = self.slept.saturating_add(slept);
-            }
-            (Activity::Runs, Activity::Waits) => self.taken_over = self
-                .taken_over
-                .saturating_add(1),
-            _ => {}
-        }
-        if self.activity != activity {
-            self.since = now;
-            self.activity = activity;
+    /// The job after what has passed up to a snapshot, in which it has this state.
+    fn go_on(self, snapshot: &Snapshot, activity: Activity) -> LiveJob
+        ensures { result ≡ gone_on snapshot.now activity self }
+    {
+        let computed = if_same(self.activity, Activity::Runs, snapshot.computed);
+        let slept = if_same(self.activity, Activity::Sleeps, snapshot.passed);
+        let waits = if_same(activity, Activity::Waits, 1);
+        let preempted = if_same(self.activity, Activity::Runs, waits);
+        LiveJob {
+            at: self.at,
+            activity,
+            released: self.released,
+            computed: self.computed.saturating_add(computed),
+            slept: self.slept.saturating_add(slept),
+            preempted: self.preempted.saturating_add(preempted),
         }
     }
 }
 
-/// A job as the words show it: its address, and its state.
-#[derive(Clone, Copy)]
-pub(crate) struct JobState {
-    at: u16,
-    activity: Activity,
+/// The job of a number after a snapshot that shows this state of it, if it was this one before.
+pub(crate) fn follow(
+    live_job: Option<LiveJob>,
+    snapshot: &Snapshot,
+    job_state: Option<JobState>,
+) -> Option<LiveJob>
+    ensures { (n : ℕ) (past : List Snapshot) → live_job ≡ alive_job n past
+        → job_state ≡ state_in n snapshot.now → result ≡ alive_job n (snapshot.now ∷ past) }
+{
+    match (live_job, job_state) {
+        (_, None) => None,
+        (None, Some(state)) => Some(LiveJob::release(state, snapshot.time)),
+        (Some(living), Some(state)) => Some(living.go_on(snapshot, state.activity)),
+    }
 }
 
-/// The jobs that the words show, by their numbers from 1.
-pub(crate) type Jobs = [Option<JobState>; MOST];
+/// The address of a job that was released, if the number wasn't in use before.
+pub(crate) fn release(live_job: Option<LiveJob>, job_state: Option<JobState>) -> Option<u16>
+    ensures { (n : ℕ) (s : Snapshot) (past : List Snapshot) → live_job ≡ alive_job n past
+        → job_state ≡ state_in n s → result ≡ release_in n s past }
+{
+    match (live_job, job_state) {
+        (None, Some(state)) => Some(state.at),
+        _ => None,
+    }
+}
+
+/// The life that is over with a snapshot.
+pub(crate) fn leave(
+    live_job: Option<LiveJob>,
+    snapshot: &Snapshot,
+    job_state: Option<JobState>,
+) -> Option<JobLife>
+    ensures { (n : ℕ) (past : List Snapshot) → live_job ≡ alive_job n past
+        → job_state ≡ state_in n snapshot.now → result ≡ gone n snapshot.now past }
+{
+    match (live_job, job_state) {
+        (Some(living), None) => Some(JobLife {
+            job: living.go_on(snapshot, living.activity),
+            time: snapshot.time,
+            end: snapshot.end,
+        }),
+        _ => None,
+    }
+}
 
 /// The state of the job in a core set.
-fn activity_in(set: usize, seat: Seat) -> Activity {
+fn activity_in(set: usize, seat: Seat) -> Activity
+    ensures { result ≡ activity_of set seat }
+{
     if seat.asleep {
         Activity::Sleeps
     } else if set == 0 {
@@ -93,55 +182,36 @@ fn activity_in(set: usize, seat: Seat) -> Activity {
     }
 }
 
-/// The jobs in the core sets, by their numbers from 1.
-pub(crate) fn jobs_in(words: &Erasable) -> Jobs
-    requires { IsSized words.now }
+/// Notes the job in a core set.
+fn put_seat(jobs: &mut JobStates, set: usize, seat: Option<Seat>)
+    requires { length jobs.old ≡ 8 }
+    ensures length { length jobs.new ≡ 8 }
+    ensures each { (n : ℕ) → n < 8 → slice_index_or jobs.new n None
+        ≡ option_or (state_here (n + 1) set seat) (slice_index_or jobs.old n None) }
 {
-    let mut all: Jobs = [None; MOST];
-    for set in 0..words.sets().count() {
-        if let Some(seat) = job_at(words, set) {
-            let place = usize::from(seat.number).wrapping_sub(1);
-            if let Some(job_state) = all.get_mut(place) {
-                let activity = activity_in(set, seat);
-                *job_state = Some(JobState {
-                    at: seat.at,
-                    activity,
-                });
+    match seat {
+        None => {}
+        Some(seat) => {
+            if seat.number == 0 || seat.number > 8 {
+                return;
             }
+            let activity = activity_in(set, seat);
+            jobs[usize::from(seat.number) - 1] = Some(JobState {
+                at: seat.at,
+                activity,
+            });
         }
     }
-    all
 }
 
-/// A change by a request: a job began at this address, or this job ended.
-#[derive(Clone, Copy)]
-pub(crate) enum Change {
-    None,
-    Began(u16),
-    Ended(LiveJob),
-}
-
-/// Compares a job number with what the words show: its job began, went on, or ended. Returns the
-/// change.
-pub(crate) fn update(
-    live_job: &mut Option<LiveJob>,
-    job_state: Option<JobState>,
-    now: Instant,
-) -> Change {
-    match (*live_job, job_state) {
-        (None, None) => Change::None,
-        (None, Some(job_state)) => {
-            *live_job = Some(LiveJob::begin(job_state.at, job_state.activity, now));
-            Change::Began(job_state.at)
-        }
-        (Some(ended), None) => {
-            *live_job = None;
-            Change::Ended(ended)
-        }
-        (Some(mut living), Some(job_state)) => {
-            living.turn(job_state.activity, now);
-            *live_job = Some(living);
-            Change::None
-        }
+/// The jobs in the core sets.
+pub(crate) fn jobs_in(words: &Erasable) -> JobStates
+    requires { IsSized words.now }
+    ensures { result ≡ states_in (seats_in words.now) }
+{
+    let mut jobs: JobStates = [None; MOST];
+    for set in 0..words.sets().count() {
+        put_seat(&mut jobs, set, job_at(words, set));
     }
+    jobs
 }

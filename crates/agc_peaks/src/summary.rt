@@ -64,7 +64,7 @@ fn jobs_of(
 fn all_jobs(alloc: Global, subject: Subject<'_>) -> Result<Vec<JobsSummary>, RunFault> {
     let job_statistics = job_statistics_of(alloc, subject)?;
     let timing = subject.timing();
-    let time = timing.map(|_timing| job_statistics.now);
+    let time = timing.map(|_timing| job_statistics.instant);
     let mut jobs = Vec::new(alloc);
     for row in job_statistics.rows.as_slice() {
         jobs.push(jobs_of(alloc, row, timing, time)?)?;
