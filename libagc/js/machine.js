@@ -1262,8 +1262,8 @@ function findingIn(words, sets) {
   const odd = number === 0 ? untidy(words) : -1;
   if (odd !== -1) [number, place, right] = [CODE_NUMBERS.UNTIDY, odd, 0];
   if (number === 0) {
-    calls.agc_due(to.answer, to.other, sets);
-    if (numbers[at.answer / 4] === 0 && bytes[at.answer + LAYOUT.AgcTruth.truth] !== 0) [number, place, right] = [CODE_NUMBERS.NOT_NOW, NUMBERS.TIME3, NUMBERS.ANY];
+    calls.agc_check(to.answer, to.other, sets);
+    if (numbers[at.answer / 4] === 0 && bytes[at.answer + LAYOUT.AgcTruth.truth] === 0) [number, place, right] = [CODE_NUMBERS.NOT_NOW, NUMBERS.TIME3, NUMBERS.ANY];
   }
   const code = CODE_NAMES[number];
   if (code === Code.OK || code === Code.NO_SUCH_SETS) return null;
