@@ -188,11 +188,24 @@ export type Task = {
     bank: string | number;
     action: string | readonly string[];
 };
+export type NamedTask = {
+    at: string | number;
+    bank: string | number;
+    action: string | readonly string[];
+    name?: string;
+};
 export type Phase = {
     group: number;
     phase: number;
     job?: string;
     task?: string;
+};
+export type NamedPhase = {
+    group: number;
+    phase: number;
+    job?: string;
+    task?: string;
+    name?: string;
 };
 export type Worker = {
     script: readonly string[];
@@ -220,19 +233,6 @@ export type Scenario = {
     phase?: readonly NamedPhase[];
     job?: readonly Job[];
     event?: readonly Event[];
-};
-export type NamedTask = {
-    at: string | number;
-    bank: string | number;
-    action: string | readonly string[];
-    name?: string;
-};
-export type NamedPhase = {
-    group: number;
-    phase: number;
-    job?: string;
-    task?: string;
-    name?: string;
 };
 export type Steal = {
     from: number;
