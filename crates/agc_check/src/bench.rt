@@ -55,6 +55,9 @@ const BELOW: &str = "no event above this one has that name; event {}, below, has
 
 const OF_SCRIPT: &str = "this looks like a script, not a bench: add --script";
 
+const IN_SCRIPT: &str =
+    "this looks like a script; a bench has it as script = [\"..\", \"..\"], a string for each line";
+
 const NO_ACTION: &str = "an action is nothing, or begins with novac, findvac, rouse or list";
 
 const NO_STEP: &str =
@@ -276,8 +279,12 @@ pub fn put_bench_messages(out: &mut Buffer, document: NamedText<'_>, findings: &
         put_message(
             out,
             match wrong {
-                Problem::NotToml if document.takes_script && is_like_script(document.text) => {
-                    plain(OF_SCRIPT)
+                Problem::NotToml if is_like_script(document.text) => {
+                    plain(if document.takes_script {
+                        OF_SCRIPT
+                    } else {
+                        IN_SCRIPT
+                    })
                 }
                 _ => fault_message(wrong, text),
             },

@@ -28,6 +28,7 @@ pub use finding::{Finding, Findings};
 pub use line::LineFault;
 pub use line_form::{LineForm, LineWord};
 pub use messages::{NamedText, put_quoted};
+pub use names::is_near;
 pub use problem::Problem;
 pub use reading::scenario_findings;
 pub use run_counts::{RunCounts, run_subject};

@@ -3,7 +3,7 @@ use crate::address_statistics::AddressStatistics;
 use crate::era_time::EraTime;
 use crate::job_statistics::JobStatistics;
 use agc_scenario::{TimedJob, Timing};
-use agc_table::{Row, Table, TableForm, left, right, width_of};
+use agc_table::{Row, Table, left, right, width_of};
 use agc_text::Field;
 use agc_text::Field::{Number, Octal, Seconds, Text};
 
@@ -117,18 +117,15 @@ pub(crate) fn name_at(timing: Option<&Timing>, at: u16) -> Option<&str> {
     job_at(timing, at)?.name()
 }
 
-/// The width of the column of names: that of the longest, and in the narrow form at most 16.
-fn name_width(statistics: &JobStatistics<'_>, timing: Option<&Timing>, form: TableForm) -> usize {
+/// The width of the column of names: that of the longest.
+fn name_width(statistics: &JobStatistics<'_>, timing: Option<&Timing>) -> usize {
     let mut width = 8;
     for row in statistics.rows.iter() {
         if let Some(name) = name_at(timing, row.at) {
             width = width_of(name).max(width);
         }
     }
-    match form {
-        TableForm::Narrow => width.min(16),
-        _ => width,
-    }
+    width
 }
 
 /// A table of the jobs of addresses: the width of the names, the time that the run is known to
@@ -154,7 +151,7 @@ fn fill(row: &mut Row, look: Look, jobs: &AddressStatistics, name: Option<&str>)
 fn put_rows(table: &mut Table, statistics: &JobStatistics<'_>, timing: Option<&Timing>) {
     let has_deadline = statistics.rows.iter().any(|row| row.deadline.is_some());
     let look = Look {
-        width: name_width(statistics, timing, table.form),
+width: name_width(statistics, timing),
         time: timing.map(|_timing| statistics.instant),
         has_deadline: has_deadline || !table.is_text(),
     };

@@ -6,4 +6,4 @@ mod line;
 mod player;
 mod playing;
 
-pub use playing::{PlayOptions, play};
+pub use playing::{PlayFault, PlayOptions, play};

@@ -183,14 +183,10 @@ fn put_rest(buffer: &mut Buffer, scene: &Scene) {
     buffer.text("\n");
 }
 
-/// The rows of all requests; on a terminal each is followed by its tables.
-fn rows_of(alloc: Global, folds: bool) -> Result<Rows, AllocError> {
+/// The rows of all requests, in this form.
+fn rows_of(alloc: Global, form: TableForm) -> Result<Rows, AllocError> {
     let choice = TraceOptions {
-        form: TraceFormat::Rows(if folds {
-            TableForm::Narrow
-        } else {
-            TableForm::Wide
-        }),
+        form: TraceFormat::Rows(form),
         alarms: false,
         from: None,
         to: None,
@@ -201,7 +197,7 @@ fn rows_of(alloc: Global, folds: bool) -> Result<Rows, AllocError> {
 
 impl Player {
     /// A bench's machine after these requests, of which no rows are written; those of others have
-    /// their tables below them, if that is wanted.
+    /// this form.
     ///
     /// # Errors
     ///
@@ -210,12 +206,12 @@ impl Player {
         alloc: Global,
         bench: &Bench,
         requests: &[Request],
-        folds: bool,
+        form: TableForm,
     ) -> Result<Player, RunFault>
         ensures { IfOk result (λ p.
             p ≡ fold watched (watching_from (bench_machine bench.now)) requests.now) }
     {
-        let rows = rows_of(alloc, folds)?;
+        let rows = rows_of(alloc, form)?;
         let machine = machine_of(alloc, bench)?;
         let (run, last) = replay(machine, requests);
         Ok(Player { run, rows, last })

@@ -1,15 +1,16 @@
 //! The play: a line is read, and answered, before the next one is read.
 ghost use Rattle.std.specs.Prelude.{◌≡◌, ◌++◌, ◌∷◌, [], OnOk};
+ghost use Rattle.agc_play.specs.declared.playing.PlayFault.TheVariants as play;
 
 use crate::line::{Overwrite, PlayCommand, parse_command, tell_line, tell_wrong};
 use crate::player::{Effect, Player};
 use agc_document::{Bench, put_bench};
 use agc_machine::Refusal;
 use agc_plan::Request;
-use agc_program::ProgramFault;
 use agc_session::{RunFault, Walk, write_result};
+use agc_table::TableForm;
 use agc_text::Field::{Number, Text};
-use agc_text::{Buffer, MOST_BYTES, Output, ReadFault, TextWriter};
+use agc_text::{Buffer, MOST_BYTES, Output, TextWriter};
 use std::alloc::{AllocError, Global};
 use std::fs;
 use std::io::{BufRead, ErrorKind, Read, Write};
@@ -44,14 +45,29 @@ The requests:
 P is octal, 01 to 37. A and W are five octal digits. The others are decimal.
 ";
 
-/// How answers are shown: on a terminal there is a prompt, and the tables of a row are listed below
-/// it.
+/// Why a play ended early.
+#[derive(Clone, Copy)]
+pub enum PlayFault {
+    /// A read failed.
+    Input,
+    Run(RunFault),
+}
+
+impl From<RunFault> for PlayFault {
+    ghost from_gives = { λ fault e. e ≡ play.Run fault };
+
+    fn from(fault: RunFault) -> Self {
+        Self::Run(fault)
+    }
+}
+
+/// How answers are shown.
 #[derive(Clone, Copy)]
 pub struct PlayOptions {
     /// Whether a prompt is written on standard error.
     pub prompts: bool,
-    /// Rows are folded, so that they fit a terminal.
-    pub folds: bool,
+    /// The form of the rows, which is text.
+    pub form: TableForm,
 }
 
 /// All requests of a bench, in the order of `agc serial`.
@@ -130,7 +146,7 @@ impl<'a> PlaySession<'a> {
         let alloc = rt.alloc();
         let requests = requests_of(alloc, bench)?;
         let buffer = Buffer::new(alloc)?;
-        let player = Player::after(alloc, bench, requests.as_slice(), options.folds)?;
+        let player = Player::after(alloc, bench, requests.as_slice(), options.form)?;
         Ok(PlaySession {
             rt,
             bench,
@@ -224,7 +240,7 @@ impl<'a> PlaySession<'a> {
     fn go_back(&mut self, taken: usize) -> Result<(), RunFault> {
         let left = self.requests.len().saturating_sub(taken);
         let requests = &self.requests.as_slice()[..left];
-        let player = Player::after(self.rt.alloc(), self.bench, requests, self.options.folds)?;
+        let player = Player::after(self.rt.alloc(), self.bench, requests, self.options.form)?;
         self.player = player;
         self.requests.truncate(left);
         Ok(())
@@ -323,7 +339,7 @@ impl<'a> PlaySession<'a> {
 
 /// The bytes of the next line, with its end; of one that is too long only its front. None at the
 /// end of the input.
-fn next_line<R: BufRead>(alloc: Global, reader: &mut R) -> Result<Vec<u8>, ProgramFault> {
+fn next_line<R: BufRead>(alloc: Global, reader: &mut R) -> Result<Vec<u8>, PlayFault> {
     let mut bytes = Vec::new(alloc);
     let mut front = Read::take(&mut *reader, MOST_LINE as u64 + 1);
     let mut read = front.read_until(b'\n', &mut bytes);
@@ -332,8 +348,10 @@ fn next_line<R: BufRead>(alloc: Global, reader: &mut R) -> Result<Vec<u8>, Progr
     }
     match read {
         Ok(_count) => Ok(bytes),
-        Err(error) if error.kind() == ErrorKind::OutOfMemory => Err(ProgramFault::NoMemory),
-        Err(_failed) => Err(ProgramFault::Read(ReadFault::Input)),
+        Err(error) if error.kind() == ErrorKind::OutOfMemory => Err(PlayFault::Run(
+            RunFault::NoMemory,
+        )),
+        Err(_failed) => Err(PlayFault::Input),
     }
 }
 
@@ -377,7 +395,7 @@ fn answer_next<R: BufRead, W: Write>(
     number: u64,
     reader: &mut R,
     writer: &mut W,
-) -> Result<bool, ProgramFault> {
+) -> Result<bool, PlayFault> {
     played.prompt("> ");
     let line = next_line(played.rt.alloc(), reader)?;
     if line.is_empty() {
@@ -399,7 +417,7 @@ fn answer_all<R: BufRead, W: Write>(
     played: &mut PlaySession<'_>,
     reader: &mut R,
     writer: &mut W,
-) -> Result<(), ProgramFault> {
+) -> Result<(), PlayFault> {
     played.begin()?;
     played.end_answer("\n", writer)?;
     played.prompt(GREETING);
@@ -424,6 +442,6 @@ pub fn play<R: BufRead, W: Write>(
     options: PlayOptions,
     reader: &mut R,
     writer: &mut W,
-) -> Result<(), ProgramFault> {
+) -> Result<(), PlayFault> {
     answer_all(&mut PlaySession::new(rt, bench, options)?, reader, writer)
 }

@@ -1,18 +1,28 @@
 // The cells of a row, each with its column.
+use crate::table::width_of;
 use agc_text::{Buffer, Field};
 use std::alloc::{AllocError, Global};
 
 /// The most cells that a row has.
 pub(crate) const MOST_CELLS: usize = 32;
 
-/// A column: its name in text, its name in CSV and JSON, its width in text in columns, and
-/// whether its cells are left-aligned there.
+/// A column: its name in text, its name in CSV and JSON, its width in text in columns, whether its
+/// cells are left-aligned there, and whether they go below the row where not all cells fit.
 #[derive(Clone, Copy)]
 pub struct Column<'a> {
     name: &'a str,
     key: &'a str,
     width: usize,
     is_left: bool,
+    is_below: bool,
+}
+
+impl Column<'_> {
+    /// The same column, whose cells are the first to go below the row.
+    pub fn below(mut self) -> Self {
+        self.is_below = true;
+        self
+    }
 }
 
 /// A left-aligned column: its name in text, its name in CSV and JSON, its width in columns.
@@ -22,16 +32,15 @@ pub fn left<'a>(name: &'a str, key: &'a str, width: usize) -> Column<'a> {
         key,
         width,
         is_left: true,
+        is_below: false,
     }
 }
 
 /// A right-aligned column, with the same parameters as `left`.
 pub fn right<'a>(name: &'a str, key: &'a str, width: usize) -> Column<'a> {
     Column {
-        name,
-        key,
-        width,
         is_left: false,
+        ..left(name, key, width)
     }
 }
 
@@ -47,22 +56,28 @@ pub(crate) enum Kind {
     Percent,
 }
 
-/// A cell: its kind, the width of its column, and its alignment. The text of its row contains the
-/// cell's text, its column's name, and the name for CSV and JSON, one after the other; `from` is
-/// where the first begins, the other three are where each ends.
+/// A cell: its kind, the width of its column, and its alignment; whether it is below the row; and
+/// the columns that it takes at the end of a line. The text of its row contains the cell's text,
+/// its column's name, and the name for CSV and JSON, one after the other; `from` is where the first
+/// begins, the other three are where each ends.
 #[derive(Clone, Copy)]
 pub(crate) struct Cell {
     pub(crate) kind: Kind,
     pub(crate) width: usize,
     pub(crate) is_left: bool,
+    pub(crate) is_below: bool,
+    last_width: usize,
     from: usize,
     text: usize,
     name: usize,
     key: usize,
 }
 
+/// The most columns that names at the left of a table take where not all cells fit.
+const MOST_NAMES: usize = 16;
+
 /// A row: the texts of its cells, with the names of their columns; the cells; and how many of them
-/// are on the row's first line in the narrow form.
+/// come before those that go below the row where not all fit.
 #[derive(Drop)]
 pub struct Row {
     pub text: Buffer,
@@ -82,6 +97,8 @@ impl Row {
             kind: Kind::Nothing,
             width: 0,
             is_left: true,
+            is_below: false,
+            last_width: 0,
             from: 0,
             text: 0,
             name: 0,
@@ -108,11 +125,15 @@ impl Row {
         let name = self.length();
         self.text.text(column.key);
         let key = self.length();
+        let is_below = column.is_below || self.count >= self.front;
+        let named = width_of(column.name);
         if let Some(cell) = self.cells.get_mut(self.count) {
             *cell = Cell {
                 kind,
                 width: column.width,
                 is_left: column.is_left,
+                is_below,
+                last_width: if column.is_left { named } else { column.width },
                 from,
                 text,
                 name,
@@ -178,9 +199,38 @@ impl Row {
         self.end_as(column, Kind::Percent);
     }
 
-    /// In the narrow form, the cells from here on are printed below the row, after their names.
+    /// Where not all cells fit, those from here on are printed below the row, after their names.
     pub fn below(&mut self) {
         self.front = self.count;
+    }
+
+    /// Whether all cells fit side by side in this many columns.
+    fn fits(&self, most: usize) -> bool {
+        let mut width: usize = 0;
+        for cell in self.cells() {
+            if width.saturating_add(cell.last_width) > most {
+                return false;
+            }
+            width = width.saturating_add(cell.width).saturating_add(2);
+        }
+        true
+    }
+
+    /// Lets only those cells be below the row that don't fit in this many columns: none, if all fit
+    /// side by side; otherwise at least those that were meant to be, and names get less room.
+    pub(crate) fn fit(&mut self, most: usize) {
+        let is_whole = self.fits(most);
+        let mut width: usize = 0;
+        for (place, cell) in self.cells.iter_mut().take(self.count).enumerate() {
+            if !is_whole && place == 0 && cell.is_left {
+                cell.width = cell.width.min(MOST_NAMES);
+            }
+            let is_over = width.saturating_add(cell.last_width) > most && place > 0;
+            cell.is_below = !is_whole && (cell.is_below || is_over);
+            if !cell.is_below {
+                width = width.saturating_add(cell.width).saturating_add(2);
+            }
+        }
     }
 
     /// Takes all cells away.

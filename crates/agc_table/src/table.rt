@@ -8,19 +8,31 @@ use std::io::Write;
 /// The form of a table.
 #[derive(Clone, Copy, PartialEq, Eq)]
 pub enum TableForm {
-    /// Text, with all columns side by side.
+    /// Text, with all columns side by side, however long a line is.
     Wide,
-    /// Text of at most 80 columns a line: the last cells of a row are printed on lines of their
-    /// own below it, each after the name of its column.
-    Narrow,
+    /// Text of at most this many columns a line. If a table is wider, its last cells are printed
+    /// on lines of their own below the row, each after the name of its column.
+    Within(usize),
     /// Comma-separated values.
     Csv,
     /// An object of JSON for each row, in a line each.
     JsonLines,
 }
 
-/// The width of the narrow form.
-const WIDTH: usize = 80;
+impl TableForm {
+    /// Whether it is text.
+    pub fn is_text(self) -> bool {
+        !matches!(self, TableForm::Csv | TableForm::JsonLines)
+    }
+
+    /// The most columns that a line of text has.
+    fn width(self) -> usize {
+        match self {
+            TableForm::Within(width) => width,
+            _ => usize::MAX,
+        }
+    }
+}
 
 /// More blanks than any cell needs.
 const BLANKS: [u8; 128] = [b' '; 128];
@@ -62,15 +74,14 @@ fn put_as(buffer: &mut Buffer, text: &[u8], form: TableForm) {
     }
 }
 
-/// The sign after a cell's text.
-fn sign_of(cell: &Cell) -> &'static str {
-    if cell.kind == Kind::Percent { "%" } else { "" }
-}
-
-/// Adds a cell at its width, after this many blanks. Returns how many blanks come before the next
-/// cell, the rest of a left-aligned cell's width included.
-fn put_aligned(lines: &mut Buffer, cell: &Cell, text: &[u8], blanks: usize) -> usize {
-    let sign = sign_of(cell);
+/// Adds a text at a cell's width, after this many blanks. Returns how many blanks come before the
+/// next cell, the rest of a left-aligned cell's width included.
+fn put_aligned(
+    lines: &mut Buffer,
+    cell: &Cell,
+    (text, sign): (&[u8], &str),
+    blanks: usize,
+) -> usize {
     let count = columns_in(text).saturating_add(sign.len());
     let rest = cell.width.saturating_sub(count);
     let (before, behind) = if cell.is_left { (0, rest) } else { (rest, 0) };
@@ -102,63 +113,62 @@ impl Row {
         buffer.text("}");
     }
 
-    /// Adds the names of its columns, in place of its cells.
-    fn put_names(&self, lines: &mut Buffer, form: TableForm) {
-        let mut blanks: usize = 0;
-        for (place, cell) in self.cells().iter().enumerate() {
-            if form == TableForm::Csv {
-                lines.text(if place == 0 { "" } else { "," });
-                put_as(lines, self.key_of(place), form);
-            } else if form == TableForm::Wide || place < self.front {
-                let mut named = *cell;
-                named.kind = Kind::Text;
-                blanks = put_aligned(lines, &named, self.name_of(place), blanks);
-            }
+    /// The text of the cell at a place and the sign after it, or in a heading its column's name.
+    fn shown(&self, place: usize, is_heading: bool) -> (&[u8], &'static str) {
+        match self.cells().get(place) {
+            _ if is_heading => (self.name_of(place), ""),
+            Some(cell) if cell.kind == Kind::Percent => (self.text_of(place), "%"),
+            _ => (self.text_of(place), ""),
         }
-        lines.text("\n");
     }
 
-    /// Adds the cells of the row's first line. If a text is longer than its column, the next cell
-    /// starts a new line; in the wide form only the first that the narrow form prints below.
-    fn put_columns(&self, lines: &mut Buffer, is_narrow: bool) {
+    /// Adds the cells of the row's first line, or the heading above them. If a text is longer than
+    /// its column, the next cell starts a new line; where all cells are on the first line, only the
+    /// first of the last ones.
+    fn put_columns(&self, lines: &mut Buffer, is_heading: bool) {
+        let is_whole = !self.cells().iter().any(|cell| cell.is_below);
         let (mut blanks, mut whole, mut is_over) = (0_usize, 0_usize, false);
         for (place, cell) in self.cells().iter().enumerate() {
-            if place < self.front || !is_narrow {
-                if is_over && (is_narrow || place == self.front) {
+            if !cell.is_below {
+                if is_over && (!is_whole || place == self.front) {
                     lines.text("\n");
                     blanks = whole;
                 }
-                let text = self.text_of(place);
-                is_over = cell.is_left && columns_in(text) > cell.width;
-                blanks = put_aligned(lines, cell, text, blanks);
+                let shown = self.shown(place, is_heading);
+                is_over = cell.is_left && columns_in(shown.0) > cell.width;
+                blanks = put_aligned(lines, cell, shown, blanks);
                 whole = whole.saturating_add(cell.width).saturating_add(2);
             }
         }
     }
 
-    /// Adds the cells that the narrow form prints below the row, in as few lines as they fit.
-    fn put_below(&self, lines: &mut Buffer) {
-        let mut length = WIDTH;
-        for (place, cell) in self.cells().iter().enumerate().skip(self.front) {
-            let text = self.text_of(place).trim_ascii_start();
-            let name = self.name_of(place).trim_ascii_start();
-            let sign = sign_of(cell);
-            let added = columns_in(text).saturating_add(name.len());
-            let added = added.saturating_add(sign.len()).saturating_add(3);
-            let is_first = length.saturating_add(added) > WIDTH;
-            lines.text(if is_first { "\n    " } else { "  " });
-            lines.add(Bytes(name));
-            lines.fill(" ", Bytes(text));
-            lines.text(sign);
-            length = if is_first { 2 } else { length }.saturating_add(added);
+    /// Adds the cells that are below the row, in as few lines of this many columns as they fit.
+    fn put_below(&self, lines: &mut Buffer, most: usize) {
+        let mut length = most;
+        for (place, cell) in self.cells().iter().enumerate() {
+            if cell.is_below {
+                let (text, sign) = self.shown(place, false);
+                let text = text.trim_ascii_start();
+                let name = self.name_of(place).trim_ascii_start();
+                let added = columns_in(text).saturating_add(columns_in(name));
+                let added = added.saturating_add(sign.len()).saturating_add(3);
+                let is_first = length.saturating_add(added) > most;
+                lines.text(if is_first { "\n    " } else { "  " });
+                lines.add(Bytes(name));
+                lines.fill(" ", Bytes(text));
+                lines.text(sign);
+                length = if is_first { 2 } else { length }.saturating_add(added);
+            }
         }
     }
 
-    /// Adds it as comma-separated values.
-    fn put_values(&self, lines: &mut Buffer) {
+    /// Adds it as comma-separated values, or the names of its columns.
+    fn put_values(&self, lines: &mut Buffer, is_heading: bool) {
         for (place, cell) in self.cells().iter().enumerate() {
             lines.text(if place == 0 { "" } else { "," });
-            if cell.kind != Kind::Nothing {
+            if is_heading {
+                put_as(lines, self.key_of(place), TableForm::Csv);
+            } else if cell.kind != Kind::Nothing {
                 put_as(lines, self.text_of(place), TableForm::Csv);
             }
         }
@@ -182,10 +192,10 @@ fn break_of(line: &str, most: usize) -> Option<usize> {
     None
 }
 
-/// Adds a line, and continues it on further lines if it takes more than 80 columns.
-fn put_broken(buffer: &mut Buffer, line: &str) {
+/// Adds a line, and continues it on further lines if it takes more than this many columns.
+fn put_broken(buffer: &mut Buffer, line: &str, width: usize) {
     let mut rest = line;
-    let mut most = WIDTH;
+    let mut most = width;
     for _line in 0..u64::MAX {
         let Some(place) = break_of(rest, most) else {
             break;
@@ -194,7 +204,7 @@ fn put_broken(buffer: &mut Buffer, line: &str) {
         buffer.text(before);
         buffer.text("\n        ");
         rest = behind.trim_ascii_start();
-        most = WIDTH - 8;
+        most = width.saturating_sub(8).max(1);
     }
     buffer.text(rest);
     buffer.text("\n");
@@ -229,46 +239,53 @@ impl Table {
 
     /// Whether it is text.
     pub fn is_text(&self) -> bool {
-        matches!(self.form, TableForm::Wide | TableForm::Narrow)
+        self.form.is_text()
+    }
+
+    /// Adds the row, or in place of its cells the names of their columns, and takes them away.
+    fn end_line(&mut self, is_heading: bool) {
+        let (row, lines) = (&mut self.row, &mut self.lines);
+        match self.form {
+            TableForm::JsonLines if is_heading => return row.clear(),
+            TableForm::JsonLines => row.put_object(lines),
+            TableForm::Csv => row.put_values(lines, is_heading),
+            TableForm::Wide | TableForm::Within(_) => {
+                let most = self.form.width();
+                row.fit(most);
+                row.put_columns(lines, is_heading);
+                if !is_heading {
+                    row.put_below(lines, most);
+                }
+            }
+        }
+        lines.text("\n");
+        row.clear();
     }
 
     /// Adds the names of the row's columns, in place of its cells, and takes these away.
     pub fn end_heading(&mut self) {
-        if self.form != TableForm::JsonLines {
-            self.row.put_names(&mut self.lines, self.form);
-        }
-        self.row.clear();
+        self.end_line(true);
     }
 
     /// Adds the row, and takes its cells away.
     pub fn end_row(&mut self) {
-        match self.form {
-            TableForm::Wide => self.row.put_columns(&mut self.lines, false),
-            TableForm::Narrow => {
-                self.row.put_columns(&mut self.lines, true);
-                self.row.put_below(&mut self.lines);
-            }
-            TableForm::Csv => self.row.put_values(&mut self.lines),
-            TableForm::JsonLines => self.row.put_object(&mut self.lines),
-        }
-        self.lines.text("\n");
-        self.row.clear();
+        self.end_line(false);
     }
 
-    /// Writes all lines. In the narrow form none takes more than 80 columns.
+    /// Writes all lines, none longer than the form has it.
     ///
     /// # Errors
     ///
     /// If a write fails, or there was no memory for all of them.
     pub fn send<W: Write>(&mut self, writer: &mut W) -> Result<(), Output> {
         self.row.text.end()?;
-        if self.form != TableForm::Narrow {
+        let TableForm::Within(width) = self.form else {
             return self.lines.send(writer);
-        }
+        };
         self.lines.end()?;
         let text = str::from_utf8(self.lines.as_bytes()).unwrap_or("");
         for line in text.split_inclusive('\n') {
-            put_broken(&mut self.broken, line.trim_ascii_end());
+            put_broken(&mut self.broken, line.trim_ascii_end(), width);
         }
         self.lines.clear();
         self.broken.send(writer)

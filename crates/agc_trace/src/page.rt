@@ -163,7 +163,7 @@ impl Page {
     /// Adds the source of the request; power-up has none.
     fn fill_source(&mut self, entry: TraceEntry<'_>) {
         let is_text = self.table.is_text();
-        let by = left("by", "by", self.columns.source.unwrap_or(0));
+        let by = left("by", "by", self.columns.source.unwrap_or(0)).below();
         let row = &mut self.table.row;
         match entry {
             TraceEntry::Power(_) if is_text => row.cell(by, Text("")),
@@ -212,9 +212,8 @@ impl Page {
     /// Adds the cells in front of the tables.
     fn fill_front(&mut self, entry: TraceEntry<'_>) {
         let has_source = self.columns.source.is_some() || !self.table.is_text();
-        let is_narrow = self.table.form == TableForm::Narrow;
         self.fill_times(entry);
-        if has_source && !is_narrow {
+        if has_source {
             self.fill_source(entry);
         }
         let row = &mut self.table.row;
@@ -231,9 +230,6 @@ impl Page {
             }
         }
         row.below();
-        if has_source && is_narrow {
-            self.fill_source(entry);
-        }
     }
 
     /// Adds the cells of a scene.
@@ -246,7 +242,7 @@ impl Page {
         let alarm = event.and_then(|event| event.alarm());
         let alarm = alarm.map(|alarm| Text(alarm_code(alarm)));
         match self.table.form {
-            TableForm::Wide | TableForm::Narrow => fill_tables(row, columns, scene),
+            TableForm::Wide | TableForm::Within(_) => fill_tables(row, columns, scene),
             TableForm::Csv => {
                 row.option(left("", "alarm", 0), alarm);
                 fill_values(row, columns, scene);

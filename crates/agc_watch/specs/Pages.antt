@@ -2,8 +2,8 @@
 use Rattle.std.specs.Prelude.{◌≡◌, ℕ, List, ◌++◌, Option, Result, Ok, Err, true, false, Bool}
 use Rattle.std.specs.Io.KnownBytes.{Appends}
 use Rattle.agc_text.specs.Writing.{AppendsFront}
-use Rattle.agc_program.specs.declared.fault.ProgramFault.{ProgramFault}
-use Rattle.agc_program.specs.declared.fault.ProgramFault.TheVariants as fault
+use Rattle.agc_session.specs.declared.run_fault.RunFault.{RunFault}
+use Rattle.agc_session.specs.declared.run_fault.RunFault.TheVariants as fault
 use Rattle.agc_watch.specs.Data.{IsData}
 use Rattle.agc_watch.specs.declared.page.TheConstants.{OPENING, CLOSING, CHART_CLOSING}
 use Rattle.agc_watch.specs.declared.page.PageView.{PageView}
@@ -32,7 +32,7 @@ pub record IsPage (opens : PageView) (workbench document page : List ℕ) : Type
 -- a page was written and nothing else; where a write failed, a front of one; and nothing where
 -- there was no memory, or what should be a workbench is none
 abbrev pub WritesPage : PageView → Option (List ℕ) → Option (List ℕ) → List ℕ → List ℕ
-    → Result Bool ProgramFault → Type 0
+    → Result Bool RunFault → Type 0
 WritesPage opens old new workbench document (Ok true) =
     (page : List ℕ) × IsPage opens workbench document page × Appends old new page
 WritesPage opens old new workbench document (Ok false) =

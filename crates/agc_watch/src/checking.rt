@@ -3,7 +3,6 @@ use crate::documents::{document_in, script_in};
 use crate::program::Console;
 use crate::stops::Stop;
 use agc_check::{NamedText, put_report, put_script_summary};
-use agc_program::ProgramFault;
 use agc_text::Buffer;
 
 /// Adds the warnings about an input and a summary of its run.
@@ -41,10 +40,8 @@ pub(crate) fn check(
         Err(stop) => return Err(stop),
     };
     if out.end().is_err() {
-        return Err(Stop::ProgramFault(ProgramFault::NoMemory));
+        return Err(Stop::NoMemory);
     }
-    match out.send(&mut console.output) {
-        Ok(()) => Ok(status),
-        Err(_failed) => Err(Stop::ProgramFault(ProgramFault::Output)),
-    }
+    out.send(&mut console.output)?;
+    Ok(status)
 }

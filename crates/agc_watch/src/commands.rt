@@ -1,5 +1,5 @@
 //! The commands of `agc_watch`, as `clap` reads them.
-use Argument::{Flag, Hidden, Value, Word};
+use Argument::{Flag, Value, Word};
 use clap::error::ErrorKind;
 use clap::{Arg, ArgAction, Command, Error};
 use std::alloc::{AllocError, Global};
@@ -17,16 +17,14 @@ const STATUSES: &str = "Exit statuses:
    2  wrong words on the command line
    3  no memory
    4  a read or a write failed
-  10  explore, sweep --find: the alarm is raised; compare: the runs differ
+  10  explore, sweep --find: an alarm is raised; compare: the runs differ
   11  explore: undecided";
 
 /// A word or an option of a command: its name, what the help calls its value, and its help.
 #[derive(Clone, Copy)]
 enum Argument {
-    /// An option that takes no value.
-    Flag(&'static str, &'static str),
-    /// A flag that the help doesn't mention: it changes nothing here.
-    Hidden(&'static str),
+    /// An option that takes no value; last, the options with which it can't be used.
+    Flag(&'static str, &'static str, &'static str),
     /// An option with a value.
     Value(&'static str, &'static str, &'static str),
     /// A word, and whether it is required.
@@ -50,22 +48,19 @@ const FILE: Argument = Word(
     "The file to read; standard input if none is named, or -",
 );
 
-const PROGRESS: Argument = Flag("progress", "Says how far it has come, once a second");
+const PROGRESS: Argument = Flag("progress", "Says how far it has come, once a second", "");
 
-/// `progress` for commands that never report any.
-const SILENT: Argument = Hidden("progress");
+const SCRIPT: Argument = Flag("script", "Reads a script", "");
 
-const SCRIPT: Argument = Flag("script", "Reads a script");
+const CSV: Argument = Flag("csv", "Writes comma-separated values", "jsonl width bench");
 
-const CSV: Argument = Flag("csv", "Writes comma-separated values");
-
-const JSONL: Argument = Flag("jsonl", "Writes an object of JSON for each row");
-
-const WIDTH: Argument = Value(
-    "width",
-    "N",
-    "Writes for N columns, 80 or more: narrow below 120",
+const JSONL: Argument = Flag(
+    "jsonl",
+    "Writes an object of JSON for each row",
+    "width bench",
 );
+
+const WIDTH: Argument = Value("width", "N", "Writes at most N columns a line, 80 or more");
 
 const TRACE: CommandSpec = CommandSpec {
     name: "trace",
@@ -84,10 +79,11 @@ Example: agc_watch trace --alarms examples/no-vac-area.toml",
     arguments: &[
         FILE,
         SCRIPT,
-        Flag("alarms", "Shows only the requests that raised an alarm"),
+        Flag("alarms", "Shows only the requests that raised an alarm", ""),
         Flag(
             "brief",
             "Counts requests after which nothing changed but the time",
+            "",
         ),
         Value(
             "from",
@@ -105,6 +101,7 @@ Example: agc_watch trace --alarms examples/no-vac-area.toml",
         Flag(
             "perfetto",
             "Writes a chart that Perfetto and Chrome's tracing open",
+            "csv jsonl width alarms brief",
         ),
         PROGRESS,
     ],
@@ -127,7 +124,6 @@ const PAGE: CommandSpec = CommandSpec {
             "FILE",
             "Writes into this file, whatever AGC_WORKBENCH names",
         ),
-        SILENT,
     ],
 };
 
@@ -135,7 +131,7 @@ const CHECK: CommandSpec = CommandSpec {
     name: "check",
     about: "Says what is wrong with an input, and in which line",
     example: "Example: agc_watch check examples/no-vac-area.toml",
-    arguments: &[FILE, SCRIPT, SILENT],
+    arguments: &[FILE, SCRIPT],
 };
 
 const EXPLORE: CommandSpec = CommandSpec {
@@ -156,13 +152,18 @@ Example: agc_watch explore --alarm 1201 examples/race.toml",
             "ALARM",
             "Reports only this alarm: 1201, 1202 or 1203",
         ),
-        Flag("through", "Goes on after an alarm"),
-        Flag("repeat", "Lets no caller stop: each begins anew at its end"),
+        Flag("through", "Goes on after an alarm", ""),
+        Flag(
+            "repeat",
+            "Lets no caller stop: each begins anew at its end",
+            "",
+        ),
         Value("least", "N", "At least N requests come between two ticks"),
         Value("most", "N", "At most N requests come between two ticks"),
         Flag(
             "peaks",
             "Goes on after the answer, and tells the most in use",
+            "bench",
         ),
         Value(
             "bench",
@@ -214,7 +215,7 @@ Example: agc_watch jobs examples/landing.toml",
     arguments: &[
         FILE,
         SCRIPT,
-        Flag("eras", "Writes only how the time of each era was used"),
+        Flag("eras", "Writes only how the time of each era was used", ""),
         CSV,
         JSONL,
         WIDTH,
@@ -243,6 +244,7 @@ Example: agc_watch compare examples/landing.toml examples/apollo-11.toml",
         ),
         CSV,
         JSONL,
+        WIDTH,
     ],
 };
 
@@ -279,9 +281,14 @@ Example: agc_watch sweep steal 0 100 --find examples/landing.toml",
             "KEY:FROM:TO[:STEP]",
             "Runs it for each value of a second number, too",
         ),
-        Flag("find", "Looks for the least value that raises an alarm"),
+        Flag(
+            "find",
+            "Looks for the least value that raises an alarm",
+            "and progress",
+        ),
         CSV,
         JSONL,
+        WIDTH,
         PROGRESS,
     ],
 };
@@ -306,9 +313,17 @@ fn all_rows() -> &'static [CommandSpec] {
     &ROWS
 }
 
-/// A flag, as `clap` reads it.
-fn flag<'a>(alloc: Global, name: &'static str) -> Arg<'a> {
-    Arg::new(alloc, name).long(name).action(ArgAction::SetTrue)
+/// A flag, as `clap` reads it, and the options with which it can't be used.
+fn flag<'a>(
+    alloc: Global,
+    name: &'static str,
+    others: &'static str,
+) -> Result<Arg<'a>, AllocError> {
+    let mut flag = Arg::new(alloc, name).long(name).action(ArgAction::SetTrue);
+    for other in others.split_whitespace() {
+        flag = flag.conflicts_with(other)?;
+    }
+    Ok(flag)
 }
 
 /// A value, as `clap` reads it. A negative number is one, so that the message about it is of the
@@ -320,22 +335,21 @@ fn value<'a>(alloc: Global, name: &'static str, called: &'static str) -> Arg<'a>
 }
 
 /// A word or an option of a command, as `clap` reads it.
-fn arg_of<'a>(alloc: Global, argument: &Argument) -> Arg<'a> {
-    match *argument {
-        Flag(name, help) => flag(alloc, name).help(help),
-        Hidden(name) => flag(alloc, name).hide(true),
+fn arg_of<'a>(alloc: Global, argument: &Argument) -> Result<Arg<'a>, AllocError> {
+    Ok(match *argument {
+        Flag(name, help, others) => flag(alloc, name, others)?.help(help),
         Value(name, called, help) => value(alloc, name, called).long(name).help(help),
         Word(name, called, is_required, help) => value(alloc, name, called)
             .required(is_required)
             .help(help),
-    }
+    })
 }
 
 /// A command, with its words and options.
 fn command_of<'a>(alloc: Global, row: &CommandSpec) -> Result<Command<'a>, AllocError> {
     let mut args = Vec::new(alloc);
     for argument in row.arguments {
-        args.push(arg_of(alloc, argument))?;
+        args.push(arg_of(alloc, argument)?)?;
     }
     Command::new(alloc, row.name)
         .about(row.about)

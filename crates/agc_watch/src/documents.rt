@@ -5,7 +5,6 @@ use agc_check::{
     put_script_messages, scenario_findings, script_findings,
 };
 use agc_plan::Request;
-use agc_program::ProgramFault;
 use agc_run::Subject;
 use agc_scenario::{Scenario, is_scenario};
 use agc_text::{Buffer, ScriptFault, read_script};
@@ -47,7 +46,7 @@ fn stop_for(messages: Buffer) -> Stop {
     if messages.end().is_ok() {
         Stop::Findings(messages)
     } else {
-        Stop::ProgramFault(ProgramFault::NoMemory)
+        Stop::NoMemory
     }
 }
 
@@ -63,7 +62,7 @@ fn no_script(alloc: Global, input: NamedText<'_>) -> Result<Stop, AllocError> {
 pub(crate) fn script_in(alloc: Global, input: NamedText<'_>) -> Result<Vec<Request>, Stop> {
     match read_script(alloc, input.text) {
         Ok(requests) => Ok(requests),
-        Err(ScriptFault::NoMemory) => Err(Stop::ProgramFault(ProgramFault::NoMemory)),
+        Err(ScriptFault::NoMemory) => Err(Stop::NoMemory),
         Err(ScriptFault::Line(_first)) => Err(no_script(alloc, input)?),
     }
 }
@@ -86,7 +85,7 @@ pub(crate) fn say_run_once(rt: &HostRuntime, input: NamedText<'_>, explored: &Ex
     if flags.repeats.iter().any(|repeats| *repeats)
         || flags.endless.iter().any(|endless| *endless)
     {
-        let _ = eprintln!(rt; "agc_watch: {file} {RUN_ONCE}");
+        let _ = eprintln!(rt; "{file} {RUN_ONCE}");
     }
 }
 
@@ -97,7 +96,7 @@ fn refusal(alloc: Global, input: NamedText<'_>, found: &Findings) -> Stop {
             put_bench_messages(&mut messages, input, found);
             stop_for(messages)
         }
-        Err(_no_memory) => Stop::ProgramFault(ProgramFault::NoMemory),
+        Err(error) => Stop::from(error),
     }
 }
 

@@ -1,8 +1,7 @@
 //! Reading the input: a file that is named, or standard input.
 use crate::stops::{Stop, stop_with};
 use crate::words::Input;
-use agc_program::ProgramFault;
-use agc_text::{MOST_BYTES, ReadFault, read_all};
+use agc_text::MOST_BYTES;
 use std::alloc::Global;
 use std::io::{ErrorKind, Input as Standard, IsTerminal, Read};
 use std::{fs, io};
@@ -25,7 +24,7 @@ pub(crate) fn read_file(rt: &HostRuntime, name: &str) -> io::Result<Vec<u8>> {
 /// Stops because a file can't be read or written, in the system's words.
 pub(crate) fn unread(alloc: Global, name: &str, error: &io::Error) -> Stop {
     if error.kind() == ErrorKind::OutOfMemory {
-        return Stop::ProgramFault(ProgramFault::NoMemory);
+        return Stop::NoMemory;
     }
     stop_with(4, format!(in alloc; "{name}: {error}"))
 }
@@ -35,27 +34,25 @@ pub(crate) fn unwritten(alloc: Global, error: &io::Error) -> Stop {
     if error.kind() == ErrorKind::BrokenPipe {
         return Stop::ClosedPipe;
     }
-    unread(alloc, "output", error)
+    unread(alloc, "agc_watch: output", error)
 }
 
-/// Stops because an input of this name is no text that is taken.
-fn refused_text(alloc: Global, name: &str, fault: ReadFault) -> Stop {
-    let sentence = match fault {
-        ReadFault::TooLong => {
-            format!(in alloc; "{name}: too long: at most {MOST_BYTES} bytes are read")
-        }
-        ReadFault::NotText => format!(in alloc; "{name}: not text: it isn't UTF-8"),
-        fault => return Stop::ProgramFault(ProgramFault::Read(fault)),
-    };
-    stop_with(1, sentence)
+/// The text of an input of this name, which has these bytes.
+pub(crate) fn text_in(alloc: Global, name: &str, bytes: Vec<u8>) -> Result<String, Stop> {
+    if bytes.len() > MOST_BYTES {
+        let sentence = format!(in alloc; "{name}: too long: at most {MOST_BYTES} bytes are read");
+        return Err(stop_with(1, sentence));
+    }
+    match String::from_utf8(bytes) {
+        Ok(text) => Ok(text),
+        Err(_other) => Err(stop_with(1, format!(in alloc; "{name}: not text: it isn't UTF-8"))),
+    }
 }
 
 /// The text of an input of this name, whose bytes were read.
-fn text_in(alloc: Global, name: &str, read: io::Result<Vec<u8>>) -> Result<String, Stop> {
+fn text_read(alloc: Global, name: &str, read: io::Result<Vec<u8>>) -> Result<String, Stop> {
     match read {
-        Ok(bytes) => read_all(alloc, &mut bytes.as_slice()).map_err(|fault| refused_text(
-            alloc, name, fault,
-        )),
+        Ok(bytes) => text_in(alloc, name, bytes),
         Err(error) => Err(unread(alloc, name, &error)),
     }
 }
@@ -67,12 +64,9 @@ pub(crate) fn text_of(rt: &HostRuntime, input: Input<'_>) -> Result<String, Stop
             if rt.stdin().is_terminal() {
                 let _ = eprintln!(rt; "agc_watch: reading standard input; end it by Ctrl-D");
             }
-            text_in(rt.alloc(), "-", read_bytes(rt.alloc(), rt.reader()))
+            text_read(rt.alloc(), "-", read_bytes(rt.alloc(), rt.reader()))
         }
-        Input::File(name) => text_in(rt.alloc(), name, read_file(rt, name)),
-        Input::Empty => match String::from_str(rt.alloc(), EMPTY) {
-            Ok(text) => Ok(text),
-            Err(error) => Err(Stop::from(error)),
-        },
+        Input::File(name) => text_read(rt.alloc(), name, read_file(rt, name)),
+        Input::Empty => Ok(String::from_str(rt.alloc(), EMPTY)?),
     }
 }

@@ -1,8 +1,6 @@
-//! `agc_watch trace` and `page` show what the requests of a bench do to the tables.
-//! `agc_watch check` says what is wrong with a bench, or with `--script` what is wrong with a
-//! script. `agc_watch bench`, `peaks` and `sweep` say what a scenario comes to. They read the file
-//! that is named, or standard input. `agc_watch play` answers each line of standard input before it
-//! reads the next.
+//! `agc_watch` shows the run of a bench, a scenario or a script, in one of several ways; `check`
+//! says what is wrong with one. It reads the file that is named, or standard input. `agc_watch play`
+//! answers each line of standard input before it reads the next.
 #![tactic(auto)]
 
 mod checking;
@@ -18,22 +16,28 @@ mod words;
 mod work;
 mod workbench;
 
+use crate::words::LEAST_WIDTH;
 use agc_play::PlayOptions;
+use agc_table::TableForm;
 use std::env;
 use std::io::IsTerminal;
 use std::process::ExitCode;
 
-/// Whether the variable `COLUMNS` says that a terminal has room for wide tables.
-fn is_wide(rt: &HostRuntime) -> bool {
+/// The form of texts: on a terminal lines are as wide as the variable `COLUMNS` says, and at least
+/// 80 columns.
+fn text_form(rt: &HostRuntime) -> TableForm {
+    if !rt.stdout().is_terminal() {
+        return TableForm::Wide;
+    }
     let columns = env::var(rt, "COLUMNS").ok();
-    let columns = columns.and_then(|columns| columns.parse::<u64>().ok());
-    columns.is_some_and(|columns| columns >= words::WIDE)
+    let columns = columns.and_then(|columns| columns.parse::<usize>().ok());
+    TableForm::Within(columns.unwrap_or(LEAST_WIDTH).max(LEAST_WIDTH))
 }
 
 fn main(rt: HostRuntime) -> ExitCode {
     let rules = PlayOptions {
         prompts: rt.stdin().is_terminal(),
-        folds: rt.stdout().is_terminal() && !is_wide(&rt),
+        form: text_form(&rt),
     };
     program::run(&rt, rules)
 }

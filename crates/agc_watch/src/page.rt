@@ -4,7 +4,7 @@ ghost use Rattle.agc_text.specs.Writing.{Writes};
 ghost use Rattle.agc_watch.specs.Data.{spelled, data_of};
 ghost use Rattle.agc_watch.specs.Pages.{IsWorkbench, WritesPage, closing_of};
 
-use agc_program::ProgramFault;
+use agc_session::RunFault;
 use agc_text::{Output, put};
 use std::alloc::{AllocError, Global};
 use std::io::Write;
@@ -101,7 +101,7 @@ pub(crate) fn put_page<W: Write>(
     workbench: &[u8],
     document: PageDocument<'_>,
     writer: &mut W,
-) -> Result<bool, ProgramFault>
+) -> Result<bool, RunFault>
     ensures { WritesPage document.entry.view (W.contents writer.old) (W.contents writer.new)
         workbench.now document.entry.text.now result }
 {
@@ -109,7 +109,7 @@ pub(crate) fn put_page<W: Write>(
     match front_of(workbench) {
         Some(front) => match put_three(front, inner.as_slice(), document.view.closing(), writer) {
             Ok(()) => Ok(true),
-            Err(_failed) => Err(ProgramFault::Output),
+            Err(_failed) => Err(RunFault::Output),
         },
         None => Ok(false),
     }

@@ -3,16 +3,14 @@ use crate::documents::bench_of_script;
 use crate::files::{text_of, unwritten};
 use crate::progress::ProgressReporter;
 use crate::stops::{Stop, exit_early};
-use crate::words::{Invocation, Subcommand, parse_words};
+use crate::words::{Invocation, Subcommand, parse_words, refused_words};
 use crate::work::work;
 use agc_check::NamedText;
 use agc_play::PlayOptions;
-use agc_program::{ProgramFault, flush_output, given_words};
-use agc_session::RunFault;
 use std::alloc::Global;
-use std::io;
-use std::io::{BufWriter, Printer, Write};
+use std::io::{BufWriter, ErrorKind, Printer, Write};
 use std::process::ExitCode;
+use std::{env, io};
 
 /// Standard output, and why the last write failed, if one did.
 #[derive(Drop)]
@@ -50,16 +48,13 @@ fn standard_output(rt: &HostRuntime) -> Result<StandardOutput<'_>, Stop> {
         printer: io::writer(rt),
         fault: None,
     };
-    BufWriter::new(rt.alloc(), writer).map_err(|_| Stop::ProgramFault(ProgramFault::NoMemory))
+    BufWriter::new(rt.alloc(), writer).map_err(|_| Stop::NoMemory)
 }
 
 /// The same end, and of a failed write the reason.
 fn with_reason(alloc: Global, output: &StandardOutput<'_>, stop: Stop) -> Stop {
     match (stop, output.get_ref().fault) {
-        (
-            Stop::ProgramFault(ProgramFault::Output | ProgramFault::Run(RunFault::Output)),
-            Some(error),
-        ) => unwritten(alloc, &error),
+        (Stop::Output, Some(error)) => unwritten(alloc, &error),
         (stop, _) => stop,
     }
 }
@@ -78,35 +73,41 @@ fn work_buffered(
         output: standard_output(rt)?,
     };
     let ended = match work(&mut console, asked, rules, input) {
-        Ok(status) => match flush_output(&mut console.output) {
+        Ok(status) => match console.output.flush() {
             Ok(()) => return Ok(status),
-            Err(fault) => Stop::ProgramFault(fault),
+            Err(_failed) => Stop::Output,
         },
         Err(stop) => stop,
     };
     Err(with_reason(rt.alloc(), &console.output, ended))
 }
 
+/// The words of the command line, of which the first is the program's own name.
+fn given_words(rt: &HostRuntime) -> Result<Vec<String>, Stop> {
+    match env::args(rt) {
+        Ok(args) => Ok(args.collect(rt.alloc())?),
+        Err(error) if error.kind() == ErrorKind::OutOfMemory => Err(Stop::NoMemory),
+        Err(_other) => Err(refused_words(rt.alloc(), "", "a word is not text: it isn't UTF-8")),
+    }
+}
+
 /// Does the work for the words of the command line. Returns the exit status.
 fn run_words(rt: &HostRuntime, rules: PlayOptions) -> Result<u8, Stop> {
     let words = given_words(rt)?;
-    let asked = parse_words(rt.alloc(), words.as_slice(), rules.folds)?;
+    let asked = parse_words(rt.alloc(), words.as_slice(), rules.form)?;
     let text = text_of(rt, asked.input)?;
-    let name = asked.input.name();
-    let before_line = format!(in rt.alloc(); "{name}:")?;
+    let before_line = format!(in rt.alloc(); "{}:", asked.input.name())?;
     let input = NamedText {
         before_line: before_line.as_str(),
         text: text.as_str(),
-        takes_script: asked.subcommand.takes_script(),
+        takes_script: asked.takes_script,
     };
-    match asked.subcommand {
-        Subcommand::Show(_) | Subcommand::Page(..) if asked.is_script => {
-            let bench = bench_of_script(rt.alloc(), input)?;
-            let text = bench.as_str();
-            work_buffered(rt, &asked, rules, NamedText { text, ..input })
-        }
-        _ => work_buffered(rt, &asked, rules, input),
+    if asked.is_script && !matches!(asked.subcommand, Subcommand::Check) {
+        let bench = bench_of_script(rt.alloc(), input)?;
+        let text = bench.as_str();
+        return work_buffered(rt, &asked, rules, NamedText { text, ..input });
     }
+    work_buffered(rt, &asked, rules, input)
 }
 
 /// Runs the program; in this manner one plays.

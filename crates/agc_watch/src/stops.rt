@@ -1,11 +1,9 @@
 //! Reasons to end a command early, and how the program ends for each.
 ghost use Rattle.std.specs.Prelude.{◌≡◌};
 ghost use Rattle.agc_watch.specs.declared.stops.Stop.TheVariants as stop;
-ghost use Rattle.agc_program.specs.declared.fault.ProgramFault.TheVariants as fault;
 
-use agc_program::{FaultLine, Program, ProgramFault};
 use agc_session::RunFault;
-use agc_text::Buffer;
+use agc_text::{Buffer, Output};
 use clap::Error;
 use std::alloc::AllocError;
 use std::fmt;
@@ -13,13 +11,7 @@ use std::fmt::Write;
 use std::io::ErrorKind;
 use std::process::ExitCode;
 
-/// The program's name, and its message about wrong words.
-const PROGRAM: Program = Program {
-    name: "agc_watch",
-    usage: "use trace, page, check, explore, bench, peaks, jobs, compare, sweep or play",
-};
-
-/// The exit status if the answer is yes: an order raises the alarm, or two runs differ.
+/// The exit status if the answer is yes: an order or a value raises the alarm, or two runs differ.
 pub(crate) const YES: u8 = 10;
 
 /// The exit status if a search ended before it could answer.
@@ -28,11 +20,13 @@ pub(crate) const UNDECIDED: u8 = 11;
 /// A reason to end a command early.
 #[derive(Drop)]
 pub(crate) enum Stop {
-    ProgramFault(ProgramFault),
-    /// The input is refused for the findings in these lines.
-    Findings(Buffer),
+    NoMemory,
+    /// A write failed.
+    Output,
     /// The reader of standard output has closed it.
     ClosedPipe,
+    /// The input is refused for the findings in these lines.
+    Findings(Buffer),
     /// The words ask for the help or the version, or they are wrong, or don't suit the document;
     /// this text explains.
     Words(Error),
@@ -44,31 +38,33 @@ pub(crate) enum Stop {
 pub(crate) fn stop_with(status: u8, sentence: Result<String, AllocError>) -> Stop {
     match sentence {
         Ok(sentence) => Stop::Message(status, sentence),
-        Err(_no_memory) => Stop::ProgramFault(ProgramFault::NoMemory),
-    }
-}
-
-impl From<ProgramFault> for Stop {
-    ghost from_gives = { λ why e. e ≡ stop.ProgramFault why };
-
-    fn from(why: ProgramFault) -> Self {
-        Self::ProgramFault(why)
+        Err(error) => Stop::from(error),
     }
 }
 
 impl From<AllocError> for Stop {
-    ghost from_gives = { λ _ e. e ≡ stop.ProgramFault fault.NoMemory };
+    ghost from_gives = { λ _ e. e ≡ stop.NoMemory };
 
     fn from(_error: AllocError) -> Self {
-        Self::ProgramFault(ProgramFault::NoMemory)
+        Self::NoMemory
     }
 }
 
-impl From<RunFault> for Stop {
-    ghost from_gives = { λ why e. e ≡ stop.ProgramFault (fault.Run why) };
+impl From<Output> for Stop {
+    ghost from_gives = { λ _ e. e ≡ stop.Output };
 
-    fn from(why: RunFault) -> Self {
-        Self::ProgramFault(ProgramFault::Run(why))
+    fn from(_error: Output) -> Self {
+        Self::Output
+    }
+}
+
+/// No run of this program starts a thread, or loses a share.
+impl From<RunFault> for Stop {
+    fn from(fault: RunFault) -> Self {
+        match fault {
+            RunFault::Output => Self::Output,
+            _ => Self::NoMemory,
+        }
     }
 }
 
@@ -76,12 +72,12 @@ impl Stop {
     /// The exit status.
     fn status(&self) -> u8 {
         match self {
-            Stop::ProgramFault(fault) => fault.status(),
             Stop::Findings(_findings) => 1,
-            Stop::ClosedPipe => 4,
+            Stop::NoMemory => 3,
+            Stop::Output | Stop::ClosedPipe => 4,
             Stop::Words(text) if text.use_stderr() => 2,
             Stop::Words(_text) => 0,
-            Stop::Message(status, _told) => *status,
+            Stop::Message(status, _sentence) => *status,
         }
     }
 }
@@ -90,16 +86,13 @@ impl Stop {
 impl fmt::Display for Stop {
     fn fmt<W: fmt::Write>(&self, f: &mut fmt::Formatter<W>) -> fmt::Result {
         match self {
-            Stop::ProgramFault(fault) => {
-                let program = PROGRAM;
-                let fault = *fault;
-                writeln!(f, "{}", FaultLine { program, fault })
-            }
+            Stop::NoMemory => f.write_str("agc_watch: no memory\n"),
+            Stop::Output => f.write_str("agc_watch: output\n"),
             Stop::Findings(findings) => {
                 let text = str::from_utf8(findings.as_bytes());
                 f.write_str(text.unwrap_or(""))
             }
-            Stop::Message(_status, told) => writeln!(f, "{}: {told}", PROGRAM.name),
+            Stop::Message(_status, sentence) => writeln!(f, "{sentence}"),
             Stop::ClosedPipe | Stop::Words(_) => Ok(()),
         }
     }

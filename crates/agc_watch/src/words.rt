@@ -5,7 +5,6 @@ use crate::progress::WorkUnit;
 use crate::stops::Stop;
 use agc_explore::{CallerRules, ExploreOptions, TickBounds};
 use agc_plan::Alarm;
-use agc_program::ProgramFault;
 use agc_table::TableForm;
 use agc_trace::{TraceFormat, TraceOptions};
 use clap::ArgMatches;
@@ -15,17 +14,8 @@ use std::alloc::Global;
 /// The most states of a search, unless the words name another number.
 const STATES: u64 = 2_000_000;
 
-/// The narrow form of a table takes this many columns.
-const LEAST_WIDTH: u64 = 80;
-
-/// From this many columns on, a whole row of a table fits on one line.
-pub(crate) const WIDE: u64 = 120;
-
-/// Why two forms of a trace are wrong.
-const ONE_TRACE: &str = "a trace has one form: --csv, --jsonl or --perfetto";
-
-/// Why two forms of a table are wrong.
-const ONE_FORM: &str = "a table has one form: --csv or --jsonl";
+/// The least columns that a line can be kept to.
+pub(crate) const LEAST_WIDTH: usize = 80;
 
 /// The values to try of the number that a key names.
 #[derive(Clone, Copy)]
@@ -46,36 +36,22 @@ pub(crate) struct SweepOptions<'a> {
     pub form: TableForm,
 }
 
-/// A way to show a bench or a scenario.
+/// A command, with its options.
 #[derive(Clone, Copy)]
-pub(crate) enum Show {
-    /// The trace of the requests that are chosen.
+pub(crate) enum Subcommand<'a> {
     Trace(TraceOptions),
-    /// How full the tables were, era by era.
+    /// The page of a document opens in this view, and is made of the workbench that is named, if
+    /// one is.
+    Page(PageView, Option<&'a str>),
+    Check,
+    Explore(ExploreOptions),
+    Play,
+    Bench,
     Peaks(TableForm),
     /// The statistics of its jobs, or only how the time of each era was used.
     Jobs(TableForm, bool),
-}
-
-/// A task for the program, and the kind of its input.
-#[derive(Clone, Copy)]
-pub(crate) enum Subcommand<'a> {
-    /// To show a bench or a scenario.
-    Show(Show),
-    /// To write the page of a bench or a scenario, which opens in this view, made of the workbench
-    /// that is named, if one is.
-    Page(PageView, Option<&'a str>),
-    /// To report the findings of the input.
-    Check,
-    /// To search all orders of a bench.
-    Explore(ExploreOptions),
-    /// To play, from a bench on.
-    Play,
-    /// To write a scenario as a bench.
-    Bench,
-    /// To run a scenario for each value of a number, or of two.
     Sweep(SweepOptions<'a>),
-    /// To write the differences from the document of this name.
+    /// The differences from the document of this name.
     Compare(&'a str, TableForm),
 }
 
@@ -87,14 +63,6 @@ impl Subcommand<'_> {
             Subcommand::Explore(_options) => WorkUnit::States,
             _ => WorkUnit::Requests,
         }
-    }
-
-    /// Whether it has the option `--script`.
-    pub(crate) fn takes_script(&self) -> bool {
-        matches!(
-            self,
-            Subcommand::Show(_) | Subcommand::Page(..) | Subcommand::Check
-        )
     }
 }
 
@@ -123,6 +91,8 @@ impl<'a> Input<'a> {
 pub(crate) struct Invocation<'a> {
     pub subcommand: Subcommand<'a>,
     pub input: Input<'a>,
+    /// Whether the command has the option `--script`.
+    pub takes_script: bool,
     /// Whether the input is a script.
     pub is_script: bool,
     /// Whether progress is reported on standard error.
@@ -133,6 +103,12 @@ pub(crate) struct Invocation<'a> {
 fn number_of(digits: &str) -> Option<u64> {
     let is_decimal = digits.as_bytes().iter().all(u8::is_ascii_digit);
     digits.parse::<u64>().ok().filter(|_number| is_decimal)
+}
+
+/// A number of columns.
+fn width_of(digits: &str) -> Option<usize> {
+    let width = usize::try_from(number_of(digits)?).ok();
+    width.filter(|width| *width >= LEAST_WIDTH)
 }
 
 /// The alarm of this code.
@@ -191,25 +167,20 @@ struct WordFault<'a> {
     word: Option<&'a str>,
 }
 
-/// The words after a command, whether texts have to fit a terminal, the file that is named, and the
-/// first fault of the words, if there is one.
+/// The words after a command, the form of texts unless a width is named, the file that is named,
+/// and the first fault of the words, if there is one.
 #[derive(Drop)]
 struct Words<'a, 'b> {
     given: &'b ArgMatches<'a>,
-    folds: bool,
+    form: TableForm,
     file: Option<&'a str>,
     fault: Option<WordFault<'a>>,
 }
 
 impl<'a, 'b> Words<'a, 'b> {
-    /// Notes a reason unless the check succeeds, or there was a fault before.
-    fn check(&mut self, is_right: bool, reason: &'static str) {
-        self.check_word(is_right, reason, None);
-    }
-
-    /// Notes a reason and the word that is wrong unless the check succeeds, or there was a fault
-    /// before.
-    fn check_word(&mut self, is_right: bool, reason: &'static str, word: Option<&'a str>) {
+    /// Notes a reason, and the word that is wrong, if one is, unless the check succeeds, or there
+    /// was a fault before.
+    fn check(&mut self, is_right: bool, reason: &'static str, word: Option<&'a str>) {
         if !is_right && self.fault.is_none() {
             self.fault = Some(WordFault { reason, word });
         }
@@ -226,133 +197,89 @@ impl<'a, 'b> Words<'a, 'b> {
     {
         let word = self.given.get_str(name)?;
         let value = read(word);
-        self.check_word(value.is_some(), reason, Some(word));
+        self.check(value.is_some(), reason, Some(word));
         value
     }
 
-    /// A number, if it is given.
-    fn number(&mut self, name: &str, reason: &'static str) -> Option<u64> {
-        self.value(name, reason, number_of)
-    }
-
-    /// The alarm that an option names, if it is given.
-    fn alarm(&mut self, option: &str, reason: &'static str) -> Option<Alarm> {
-        self.value(option, reason, alarm_of)
-    }
-
-    /// How many columns texts have to fit, if it is given.
-    fn width(&mut self) -> Option<u64> {
-        let reason = "--width wants a whole number from 80 on";
-        let width = self.number("width", reason);
-        let is_enough = width.is_none_or(|width| width >= LEAST_WIDTH);
-        self.check_word(is_enough, reason, self.given.get_str("width"));
-        width
-    }
-
     /// The form of a table.
-    fn form(&mut self, reason: &'static str) -> TableForm {
-        let width = self.width();
-        let lines = self.given.get_flag("jsonl");
-        let csv = self.given.get_flag("csv");
-        self.check(!csv || !lines, reason);
-        if csv {
+    fn form(&mut self) -> TableForm {
+        let reason = "--width wants a whole number from 80 on";
+        let width = self.value("width", reason, width_of);
+        if self.given.get_flag("csv") {
             TableForm::Csv
-        } else if lines {
+        } else if self.given.get_flag("jsonl") {
             TableForm::JsonLines
-        } else if width.map_or(self.folds, |width| width < WIDE) {
-            TableForm::Narrow
         } else {
-            TableForm::Wide
+            width.map_or(self.form, TableForm::Within)
         }
-    }
-
-    /// The form of a trace.
-    fn trace_form(&mut self) -> TraceFormat {
-        let form = self.form(ONE_TRACE);
-        if !self.given.get_flag("perfetto") {
-            return TraceFormat::Rows(form);
-        }
-        let is_text = matches!(form, TableForm::Wide | TableForm::Narrow);
-        self.check(is_text, ONE_TRACE);
-        TraceFormat::Chart
     }
 
     /// Reads the words after `trace`.
-    fn trace(&mut self) -> Subcommand<'a> {
+    fn trace(&mut self) -> TraceOptions {
         let reason = "--from wants a number with at most two decimals";
         let from = self.value("from", reason, hundredths_of);
         let reason = "--to wants a number with at most two decimals";
         let to = self.value("to", reason, hundredths_of);
         let is_right = from.unwrap_or(0) <= to.unwrap_or(u64::MAX);
-        self.check(is_right, "--from is beyond --to");
-        let choice = TraceOptions {
-            form: self.trace_form(),
+        self.check(is_right, "--from is beyond --to", None);
+        let form = TraceFormat::Rows(self.form());
+        let is_chart = self.given.get_flag("perfetto");
+        TraceOptions {
+            form: if is_chart { TraceFormat::Chart } else { form },
             alarms: self.given.get_flag("alarms"),
             from,
             to,
             brief: self.given.get_flag("brief"),
-        };
-        let is_chosen = choice.alarms || choice.brief;
-        let is_right = choice.form != TraceFormat::Chart || !is_chosen;
-        self.check(is_right, "--perfetto goes without --alarms and --brief");
-        Subcommand::Show(Show::Trace(choice))
+        }
     }
 
-    /// Reads the words after `page`.
-    fn page(&mut self) -> Subcommand<'a> {
-        let view = match self.given.get_str("view") {
-            None => PageView::Whole,
-            named => {
-                self.check_word(named == Some("chart"), "--view wants chart", named);
-                PageView::Chart
-            }
-        };
-        Subcommand::Page(view, self.given.get_str("workbench"))
+    /// The view in which a page opens.
+    fn view(&mut self) -> PageView {
+        let view = self.given.get_str("view");
+        self.check(
+            matches!(view, None | Some("chart")),
+            "--view wants chart",
+            view,
+        );
+        if view.is_some() {
+            PageView::Chart
+        } else {
+            PageView::Whole
+        }
     }
 
     /// The number of requests between two ticks.
     fn ticks(&mut self) -> TickBounds {
         let requests = |word: &str| u16::try_from(number_of(word)?).ok();
-        let least = self.value(
-            "least",
-            "--least wants a whole number up to 65535",
-            requests,
-        );
-        let most = self.value("most", "--most wants a whole number up to 65535", requests);
-        let least = least.unwrap_or(0);
+        let reason = "--least wants a whole number up to 65535";
+        let least = self.value("least", reason, requests).unwrap_or(0);
+        let reason = "--most wants a whole number up to 65535";
+        let most = self.value("most", reason, requests);
         let is_right = least <= most.unwrap_or(u16::MAX);
-        self.check(is_right, "--least is beyond --most");
+        self.check(is_right, "--least is beyond --most", None);
         TickBounds { least, most }
     }
 
     /// Reads the words after `explore`.
     fn explore(&mut self) -> ExploreOptions {
-        let repeats = self.given.get_flag("repeat");
+        let some = |word: &str| number_of(word).filter(|states| *states > 0);
         let reason = "--states wants a whole number from 1 on, below 2^64";
-        let states = self.number("states", reason).unwrap_or(STATES);
-        self.check_word(states > 0, reason, self.given.get_str("states"));
-        let bench = self.alarm("bench", "--bench wants 1201, 1202 or 1203");
-        let form = self.form(ONE_FORM);
-        let is_text = matches!(form, TableForm::Wide | TableForm::Narrow);
-        self.check(
-            bench.is_none() || is_text,
-            "--bench goes without --csv and --jsonl",
-        );
-        let peaks = self.given.get_flag("peaks");
-        self.check(
-            bench.is_none() || !peaks,
-            "--bench and --peaks are two outputs",
-        );
-        let alarm = self.alarm("alarm", "--alarm wants 1201, 1202 or 1203");
+        let states = self.value("states", reason, some).unwrap_or(STATES);
+        let bench = self.value("bench", "--bench wants 1201, 1202 or 1203", alarm_of);
+        let alarm = self.value("alarm", "--alarm wants 1201, 1202 or 1203", alarm_of);
         let is_one = bench.is_none() || alarm.is_none() || alarm == bench;
-        self.check(is_one, "--alarm and --bench name two alarms");
+        self.check(is_one, "--alarm and --bench name two alarms", None);
+        let (through, repeats) = (
+            self.given.get_flag("through"),
+            self.given.get_flag("repeat"),
+        );
         ExploreOptions {
             states,
             alarm,
-            rules: CallerRules::new(self.given.get_flag("through"), repeats, self.ticks()),
-            peaks,
+            rules: CallerRules::new(through, repeats, self.ticks()),
+            peaks: self.given.get_flag("peaks"),
             bench,
-            form,
+            form: self.form(),
         }
     }
 
@@ -365,7 +292,7 @@ impl<'a, 'b> Words<'a, 'b> {
             None => {
                 let is_number = word.is_some_and(|word| word.starts_with('-') && word != "-");
                 let is_file = self.given.get_str("file").is_none() && !is_number;
-                self.check_word(is_file, "STEP wants a whole number (FILE comes last)", word);
+                self.check(is_file, "STEP wants a whole number (FILE comes last)", word);
                 self.file = file_of(word);
                 1
             }
@@ -374,19 +301,13 @@ impl<'a, 'b> Words<'a, 'b> {
 
     /// The values of the first number of a sweep.
     fn first_values(&mut self) -> Values<'a> {
-        let from = self
-            .number("from", "FROM wants a whole number")
-            .unwrap_or(0);
-        let to = self.number("to", "TO wants a whole number").unwrap_or(0);
-        let step = self.step();
-        self.check(step > 0, "STEP is 0");
-        self.check(from <= to, "FROM is beyond TO");
-        let key = self.given.get_str("key").unwrap_or("");
+        let from = self.value("from", "FROM wants a whole number", number_of);
+        let to = self.value("to", "TO wants a whole number", number_of);
         Values {
-            key,
-            from,
-            to,
-            step,
+            key: self.given.get_str("key").unwrap_or(""),
+            from: from.unwrap_or(0),
+            to: to.unwrap_or(u64::MAX),
+            step: self.step(),
         }
     }
 
@@ -395,12 +316,9 @@ impl<'a, 'b> Words<'a, 'b> {
         let text = self.given.get_str("and")?;
         let values = values_of(text);
         let reason = "--and wants KEY:FROM:TO or KEY:FROM:TO:STEP, such as steal:0:20:5";
-        self.check_word(values.is_some(), reason, Some(text));
-        if let Some(values) = values {
-            self.check(values.step > 0, "STEP of --and is 0");
-            self.check(values.from <= values.to, "FROM of --and is beyond TO");
-            self.check(values.key != key, "--and wants another key");
-        }
+        self.check(values.is_some(), reason, Some(text));
+        let is_other = values.is_none_or(|values| values.key != key);
+        self.check(is_other, "--and wants another key", Some(text));
         values
     }
 
@@ -408,50 +326,41 @@ impl<'a, 'b> Words<'a, 'b> {
     fn sweep(&mut self) -> SweepOptions<'a> {
         let first = self.first_values();
         let second = self.second_values(first.key);
-        let finds = self.given.get_flag("find");
-        self.check(second.is_none() || !finds, "--find goes without --and");
+        for values in [first, second.unwrap_or(first)] {
+            self.check(values.step > 0, "STEP is 0", None);
+            self.check(values.from <= values.to, "FROM is beyond TO", None);
+        }
         SweepOptions {
             first,
             second,
-            finds,
-            form: self.form(ONE_FORM),
+            finds: self.given.get_flag("find"),
+            form: self.form(),
         }
     }
 
-    /// Reads the words after `compare`: one of the two documents may be standard input.
-    fn compare(&mut self) -> Subcommand<'a> {
+    /// The second document of `compare`; only one of the two may be standard input.
+    fn after(&mut self) -> &'a str {
         let after = self.given.get_str("after").unwrap_or("-");
         let is_named = self.file.is_some() || after != "-";
-        self.check(is_named, "BEFORE and AFTER can't both be standard input");
-        Subcommand::Compare(after, self.form(ONE_FORM))
+        let reason = "BEFORE and AFTER can't both be standard input";
+        self.check(is_named, reason, None);
+        after
     }
 
     /// Reads the words after the name of a command.
     fn subcommand(&mut self, command: &str) -> Subcommand<'a> {
         match command {
-            "trace" => self.trace(),
-            "page" => self.page(),
+            "trace" => Subcommand::Trace(self.trace()),
+            "page" => Subcommand::Page(self.view(), self.given.get_str("workbench")),
             "check" => Subcommand::Check,
             "explore" => Subcommand::Explore(self.explore()),
             "bench" => Subcommand::Bench,
-            "peaks" => Subcommand::Show(Show::Peaks(self.form(ONE_FORM))),
-            "jobs" => Subcommand::Show(Show::Jobs(
-                self.form(ONE_FORM),
-                self.given.get_flag("eras"),
-            )),
+            "peaks" => Subcommand::Peaks(self.form()),
+            "jobs" => Subcommand::Jobs(self.form(), self.given.get_flag("eras")),
             "sweep" => Subcommand::Sweep(self.sweep()),
-            "compare" => self.compare(),
+            "compare" => Subcommand::Compare(self.after(), self.form()),
             _ => Subcommand::Play,
         }
-    }
-}
-
-/// The input of a task, of the file that is named, if one is.
-fn input_of<'a>(subcommand: Subcommand<'_>, file: Option<&'a str>) -> Input<'a> {
-    match (file, subcommand) {
-        (Some(name), _) => Input::File(name),
-        (None, Subcommand::Play) => Input::Empty,
-        (None, _) => Input::Standard,
     }
 }
 
@@ -459,23 +368,29 @@ fn input_of<'a>(subcommand: Subcommand<'_>, file: Option<&'a str>) -> Input<'a> 
 fn parse_matches<'a>(
     alloc: Global,
     matches: &ArgMatches<'a>,
-    folds: bool,
+    form: TableForm,
 ) -> Result<Invocation<'a>, Stop> {
     let Some((command, given)) = matches.subcommand() else {
         return Err(refused_words(alloc, "", "a command is missing"));
     };
     let mut words = Words {
         given,
-        folds,
+        form,
         file: file_of(given.get_str("file")),
         fault: None,
     };
     let subcommand = words.subcommand(command);
+    let input = match (words.file, subcommand) {
+        (Some(name), _) => Input::File(name),
+        (None, Subcommand::Play) => Input::Empty,
+        (None, _) => Input::Standard,
+    };
     match words.fault {
         Some(fault) => Err(refused_word(alloc, command, fault)),
         None => Ok(Invocation {
             subcommand,
-            input: input_of(subcommand, words.file),
+            input,
+            takes_script: given.contains_id("script"),
             is_script: given.get_flag("script"),
             has_progress: given.get_flag("progress"),
         }),
@@ -488,7 +403,7 @@ fn refused_word(alloc: Global, command: &str, fault: WordFault<'_>) -> Stop {
         None => refused_words(alloc, command, fault.reason),
         Some(word) => match format!(in alloc; "{}, not '{word}'", fault.reason) {
             Ok(reason) => refused_words(alloc, command, reason.as_str()),
-            Err(_no_memory) => Stop::ProgramFault(ProgramFault::NoMemory),
+            Err(error) => Stop::from(error),
         },
     }
 }
@@ -497,12 +412,12 @@ fn refused_word(alloc: Global, command: &str, fault: WordFault<'_>) -> Stop {
 pub(crate) fn refused_words(alloc: Global, command: &str, reason: &str) -> Stop {
     match error_of(alloc, command, reason) {
         Ok(error) => Stop::Words(error),
-        Err(_no_memory) => Stop::ProgramFault(ProgramFault::NoMemory),
+        Err(error) => Stop::from(error),
     }
 }
 
-/// Reads the words of a command line, whose texts have to fit a terminal or not. The first is the
-/// program's own name.
+/// Reads the words of a command line, where texts have this form unless the words name another. The
+/// first is the program's own name.
 ///
 /// # Errors
 ///
@@ -511,14 +426,12 @@ pub(crate) fn refused_words(alloc: Global, command: &str, reason: &str) -> Stop 
 pub(crate) fn parse_words<'a>(
     alloc: Global,
     words: &'a [String],
-    folds: bool,
+    form: TableForm,
 ) -> Result<Invocation<'a>, Stop> {
     let mut program = whole_command(alloc)?;
     match program.try_get_matches_from_mut(words) {
-        Ok(matches) => parse_matches(alloc, &matches, folds),
-        Err(error) if error.kind() == ErrorKind::OutOfMemory => {
-            Err(Stop::ProgramFault(ProgramFault::NoMemory))
-        }
+        Ok(matches) => parse_matches(alloc, &matches, form),
+        Err(error) if error.kind() == ErrorKind::OutOfMemory => Err(Stop::NoMemory),
         Err(error) => Err(Stop::Words(error)),
     }
 }

@@ -1,23 +1,24 @@
 //! The work of each command on its input.
 use crate::checking::check;
-use crate::documents::{document_in, explored_in, say_run_once, scenario_in};
+use crate::documents::{RunnableDocument, document_in, explored_in, say_run_once, scenario_in};
 use crate::files::text_of;
 use crate::page::{PageDocument, PageView, put_page};
 use crate::program::Console;
 use crate::stops::{Stop, UNDECIDED, YES, stop_with};
 use crate::sweeping::write_sweep;
-use crate::words::{Input as Source, Invocation, Show, Subcommand};
+use crate::words::{Input as Source, Invocation, Subcommand, refused_words};
 use crate::workbench::Workbench;
 use agc_check::{ExploredBench, NamedText};
 use agc_explore::{Exploration, ExploreOptions, ReachStatus, explore, with_endless};
 use agc_peaks::{RunSummary, put_differences, scenario_bench, summary_of, write_jobs, write_peaks};
 use agc_plan::Alarm;
-use agc_play::{PlayOptions, play};
-use agc_program::{ProgramFault, flush_output};
+use agc_play::{PlayFault, PlayOptions, play};
+use agc_session::RunFault;
 use agc_table::TableForm;
-use agc_text::{MOST_BYTES, ReadFault, alarm_code};
-use agc_trace::trace;
-use std::io::Input;
+use agc_text::{MOST_BYTES, alarm_code};
+use agc_trace::{TraceOptions, trace};
+use std::alloc::Global;
+use std::io::{Input, Write};
 
 /// Writes the page of the bench or the scenario that a text is, which opens in this view. The exit
 /// status is 0.
@@ -41,20 +42,34 @@ fn write_page(
     }
 }
 
-/// Shows this of the bench or the scenario that a text is. The exit status is 0.
-fn show_document(console: &mut Console<'_>, show: Show, input: NamedText<'_>) -> Result<u8, Stop> {
-    let document = document_in(console.rt, input)?;
-    let (alloc, subject) = (console.rt.alloc(), document.subject());
-    let (progress, output) = (&mut console.progress, &mut console.output);
-    let shown = match show {
-        Show::Peaks(form) => write_peaks(alloc, subject, form, output),
-        Show::Jobs(form, eras) => write_jobs(alloc, subject, (form, eras), output),
-        Show::Trace(choice) => trace(alloc, subject, choice, progress, output).map(|_watched| ()),
-    };
-    match shown {
-        Ok(()) => Ok(0),
-        Err(fault) => Err(Stop::from(fault)),
+/// Refuses a part of a request's number.
+fn check_place(
+    alloc: Global,
+    document: &RunnableDocument,
+    options: TraceOptions,
+) -> Result<(), Stop> {
+    let is_part = |place: Option<u64>| place.is_some_and(|place| place % 100 != 0);
+    match document {
+        RunnableDocument::Bench(_) if is_part(options.from) || is_part(options.to) => {
+            let reason = "in a bench or a script --from and --to want the number of a request";
+            Err(refused_words(alloc, "trace", reason))
+        }
+        _ => Ok(()),
     }
+}
+
+/// Writes the trace of the bench or the scenario that a text is. The exit status is 0.
+fn write_trace(
+    console: &mut Console<'_>,
+    options: TraceOptions,
+    input: NamedText<'_>,
+) -> Result<u8, Stop> {
+    let document = document_in(console.rt, input)?;
+    let alloc = console.rt.alloc();
+    check_place(alloc, &document, options)?;
+    let (progress, output) = (&mut console.progress, &mut console.output);
+    let _watched = trace(alloc, document.subject(), options, progress, output)?;
+    Ok(0)
 }
 
 /// Says on standard error that no bench is written, and why, if one was asked for.
@@ -83,19 +98,13 @@ fn report_orders(
         bench,
         options,
     };
-    match explore(&asked, progress, output) {
-        Ok(ReachStatus::None) => {
-            say_no_bench(console.rt, input, options.bench, "no order raises");
-            Ok(0)
-        }
-        Ok(ReachStatus::Some) => Ok(YES),
-        Ok(ReachStatus::Undecided) => {
-            let why = "undecided: no order was found that raises";
-            say_no_bench(console.rt, input, options.bench, why);
-            Ok(UNDECIDED)
-        }
-        Err(fault) => Err(Stop::from(fault)),
-    }
+    let (status, why) = match explore(&asked, progress, output)? {
+        ReachStatus::Some => return Ok(YES),
+        ReachStatus::None => (0, "no order raises"),
+        ReachStatus::Undecided => (UNDECIDED, "undecided: no order was found that raises"),
+    };
+    say_no_bench(console.rt, input, options.bench, why);
+    Ok(status)
 }
 
 /// Explores the bench that an input is.
@@ -119,10 +128,11 @@ fn play_bench(
     say_run_once(rt, input, &explored);
     match play(rt, &explored.bench, rules, &mut rt.reader(), output) {
         Ok(()) => Ok(0),
-        Err(ProgramFault::Read(ReadFault::Input)) => {
-            Err(stop_with(4, String::from_str(rt.alloc(), "-: a read failed")))
-        }
-        Err(fault) => Err(Stop::ProgramFault(fault)),
+        Err(PlayFault::Input) => Err(stop_with(
+            4,
+            String::from_str(rt.alloc(), "-: a read failed"),
+        )),
+        Err(PlayFault::Run(fault)) => Err(Stop::from(fault)),
     }
 }
 
@@ -134,18 +144,18 @@ fn write_bench(console: &mut Console<'_>, input: NamedText<'_>) -> Result<u8, St
     if bytes <= MOST_BYTES as u64 {
         return Ok(0);
     }
-    flush_output(&mut console.output)?;
-    let sentence = format!(in alloc; "the bench has {bytes} bytes, and agc takes {MOST_BYTES}");
+    if console.output.flush().is_err() {
+        return Err(Stop::Output);
+    }
+    let (file, has) = (input.before_line, "its bench has");
+    let sentence = format!(in alloc; "{file} {has} {bytes} bytes, and agc takes {MOST_BYTES}");
     Err(stop_with(1, sentence))
 }
 
 /// The summary of the run of an input's document.
 fn summary_in(rt: &HostRuntime, input: NamedText<'_>) -> Result<RunSummary, Stop> {
     let document = document_in(rt, input)?;
-    match summary_of(rt.alloc(), document.subject()) {
-        Ok(summary) => Ok(summary),
-        Err(fault) => Err(Stop::from(fault)),
-    }
+    Ok(summary_of(rt.alloc(), document.subject())?)
 }
 
 /// Writes what differs between an input's document and that of a file. The exit status says whether
@@ -170,17 +180,12 @@ fn compare_with(
     };
     let summary = summary_in(rt, other)?;
     let documents = [(input.text, &before), (other.text, &summary)];
-    match put_differences(rt.alloc(), documents, form, output) {
-        Ok(true) => Ok(YES),
-        Ok(false) => Ok(0),
-        Err(fault) => Err(Stop::from(fault)),
-    }
+    let differs = put_differences(rt.alloc(), documents, form, output)?;
+    Ok(if differs { YES } else { 0 })
 }
 
-/// Does what is asked for of an input, and returns the exit status. Here stands what each command
-/// takes: a bench or a scenario where it shows or checks a document, a bench where it explores or
-/// plays, a scenario where it writes a bench or a sweep, two documents where it compares, and a
-/// script where it checks one. A script that is shown has become a bench before.
+/// Does what is asked for of an input, and returns the exit status. A script has become a bench
+/// before, unless it is checked.
 pub(crate) fn work(
     console: &mut Console<'_>,
     asked: &Invocation<'_>,
@@ -188,7 +193,28 @@ pub(crate) fn work(
     input: NamedText<'_>,
 ) -> Result<u8, Stop> {
     match asked.subcommand {
-        Subcommand::Show(show) => show_document(console, show, input),
+        Subcommand::Trace(options) => write_trace(console, options, input),
+        Subcommand::Peaks(form) => {
+            let document = document_in(console.rt, input)?;
+            write_peaks(
+                console.rt.alloc(),
+                document.subject(),
+                form,
+                &mut console.output,
+            )?;
+            Ok(0)
+        }
+        Subcommand::Jobs(form, eras) => {
+            let document = document_in(console.rt, input)?;
+            let form = (form, eras);
+            write_jobs(
+                console.rt.alloc(),
+                document.subject(),
+                form,
+                &mut console.output,
+            )?;
+            Ok(0)
+        }
         Subcommand::Page(view, named) => write_page(console, (view, named), input),
         Subcommand::Check => check(console, input, asked.is_script),
         Subcommand::Explore(options) => explore_bench(console, options, input),

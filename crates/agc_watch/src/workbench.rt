@@ -2,8 +2,6 @@
 use crate::commands::VERSION;
 use crate::files::{read_file, unread};
 use crate::stops::{Stop, stop_with};
-use agc_program::ProgramFault;
-use agc_text::{ReadFault, read_all};
 use std::alloc::{AllocError, Global};
 use std::env;
 use std::env::VarError;
@@ -50,16 +48,21 @@ fn places(rt: &HostRuntime) -> Result<Vec<String>, AllocError> {
 fn missing(alloc: Global, places: &[String]) -> Stop {
     let end = "name one by --workbench or AGC_WORKBENCH";
     let sentence = match places {
-        [] => format!(in alloc; "no workbench: {end}"),
-        [only] => format!(in alloc; "no workbench at {only}: {end}"),
-        [first, second, ..] => { format!(in alloc; "no workbench at {first} or {second}: {end}") }
+        [] => format!(in alloc; "agc_watch: no workbench: {end}"),
+        [only] => format!(in alloc; "agc_watch: no workbench at {only}: {end}"),
+        [first, second, ..] => {
+            format!(in alloc; "agc_watch: no workbench at {first} or {second}: {end}")
+        }
     };
     stop_with(4, sentence)
 }
 
 /// That the file of this name is no workbench.
 fn not_one(alloc: Global, name: &str) -> Stop {
-    stop_with(1, format!(in alloc; "{name} is not an empty AGC workbench"))
+    stop_with(
+        1,
+        format!(in alloc; "{name}: this is not an empty AGC workbench"),
+    )
 }
 
 /// Whether a text is of digits and dots alone.
@@ -89,33 +92,28 @@ fn check_version(alloc: Global, name: &str, text: &str) -> Result<(), Stop> {
             if version == VERSION {
                 return Ok(());
             }
-            let is = "is the workbench of version";
-            let sentence = format!(in alloc;
-                "{name} {is} {version}, and this is version {VERSION}"
-            );
+            let is = "this is the workbench of version";
+            let sentence = format!(in alloc; "{name}: {is} {version}, not {VERSION}");
             Err(stop_with(1, sentence))
         }
     }
 }
 
 /// The workbench in a file of this name, which has these bytes.
-fn workbench_of(alloc: Global, name: &str, bytes: &[u8]) -> Result<Workbench, Stop> {
-    let mut unread = bytes;
-    match read_all(alloc, &mut unread) {
-        Ok(text) => {
-            check_version(alloc, name, text.as_str())?;
-            let name = String::from_str(alloc, name)?;
-            Ok(Workbench { name, text })
-        }
-        Err(ReadFault::NoMemory) => Err(Stop::ProgramFault(ProgramFault::NoMemory)),
-        Err(_) => Err(not_one(alloc, name)),
-    }
+fn workbench_of(alloc: Global, name: &str, bytes: Vec<u8>) -> Result<Workbench, Stop> {
+    let text = match String::from_utf8(bytes) {
+        Ok(text) => text,
+        Err(_other) => return Err(not_one(alloc, name)),
+    };
+    check_version(alloc, name, text.as_str())?;
+    let name = String::from_str(alloc, name)?;
+    Ok(Workbench { name, text })
 }
 
 /// The workbench that is named.
 fn named_workbench(rt: &HostRuntime, name: &str) -> Result<Workbench, Stop> {
     match read_file(rt, name) {
-        Ok(bytes) => workbench_of(rt.alloc(), name, bytes.as_slice()),
+        Ok(bytes) => workbench_of(rt.alloc(), name, bytes),
         Err(error) => Err(unread(rt.alloc(), name, &error)),
     }
 }
@@ -125,7 +123,7 @@ fn placed_workbench(rt: &HostRuntime) -> Result<Workbench, Stop> {
     let places = places(rt)?;
     for place in &places {
         match read_file(rt, place.as_str()) {
-            Ok(bytes) => return workbench_of(rt.alloc(), place.as_str(), bytes.as_slice()),
+            Ok(bytes) => return workbench_of(rt.alloc(), place.as_str(), bytes),
             Err(error) => {
                 if error.kind() != ErrorKind::NotFound {
                     return Err(unread(rt.alloc(), place.as_str(), &error));
@@ -145,7 +143,7 @@ impl Workbench {
         }
         match env::var(rt, "AGC_WORKBENCH") {
             Ok(name) => named_workbench(rt, name.as_str()),
-            Err(VarError::OutOfMemory) => Err(Stop::ProgramFault(ProgramFault::NoMemory)),
+            Err(VarError::OutOfMemory) => Err(Stop::NoMemory),
             Err(_) => placed_workbench(rt),
         }
     }
