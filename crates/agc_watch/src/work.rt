@@ -42,20 +42,23 @@ fn write_page(
     }
 }
 
-/// Refuses a part of a request's number.
-fn check_place(
+/// Whether this is no number of a request, in hundredths of one.
+fn is_part(place: Option<u64>) -> bool {
+    place.is_some_and(|place| place % 100 != 0)
+}
+
+/// Refuses a part of a request's number in a bench.
+fn check_places(
     alloc: Global,
     document: &RunnableDocument,
     options: TraceOptions,
 ) -> Result<(), Stop> {
-    let is_part = |place: Option<u64>| place.is_some_and(|place| place % 100 != 0);
-    match document {
-        RunnableDocument::Bench(_) if is_part(options.from) || is_part(options.to) => {
-            let reason = "in a bench or a script --from and --to want the number of a request";
-            Err(refused_words(alloc, "trace", reason))
-        }
-        _ => Ok(()),
+    let is_bench = matches!(document, RunnableDocument::Bench(_));
+    if is_bench && (is_part(options.from) || is_part(options.to)) {
+        let reason = "in a bench or a script --from and --to want the number of a request";
+        return Err(refused_words(alloc, "trace", reason));
     }
+    Ok(())
 }
 
 /// Writes the trace of the bench or the scenario that a text is. The exit status is 0.
@@ -66,7 +69,7 @@ fn write_trace(
 ) -> Result<u8, Stop> {
     let document = document_in(console.rt, input)?;
     let alloc = console.rt.alloc();
-    check_place(alloc, &document, options)?;
+    check_places(alloc, &document, options)?;
     let (progress, output) = (&mut console.progress, &mut console.output);
     let _watched = trace(alloc, document.subject(), options, progress, output)?;
     Ok(0)
