@@ -1,6 +1,6 @@
 //! The play: a line is read, and answered, before the next one is read.
 ghost use Rattle.std.specs.Prelude.{◌≡◌, ◌++◌, ◌∷◌, [], OnOk};
-ghost use Rattle.agc_play.specs.declared.playing.PlayFault.TheVariants as play;
+ghost use Rattle.agc_play.specs.declared.playing.PlayFault.TheVariants as fault;
 
 use crate::line::{Overwrite, PlayCommand, parse_command, tell_line, tell_wrong};
 use crate::player::{Effect, Player};
@@ -54,7 +54,7 @@ pub enum PlayFault {
 }
 
 impl From<RunFault> for PlayFault {
-    ghost from_gives = { λ fault e. e ≡ play.Run fault };
+    ghost from_gives = { λ why e. e ≡ fault.Run why };
 
     fn from(fault: RunFault) -> Self {
         Self::Run(fault)

@@ -107,26 +107,37 @@ fn status_of(rt: &HostRuntime, input: NamedText<'_>, found: FindOutcome) -> u8 {
     YES
 }
 
-/// Sweeps the scenario that an input is: runs it for each value of a number, or of two, or looks
-/// for a value that raises an alarm. The exit status says whether such a value was found.
+/// Runs a scenario for each value of a number, or of two, or looks for a value that raises an
+/// alarm. Returns what was found.
+fn sweep_scenario(
+    console: &mut Console<'_>,
+    asked: SweepOptions<'_>,
+    scenario: &mut Scenario,
+) -> Result<FindOutcome, Stop> {
+    let alloc = console.rt.alloc();
+    let (progress, output) = (&mut console.progress, &mut console.output);
+    let first = axis_of(alloc, scenario, asked.first)?;
+    let form = asked.form;
+    if let Some(values) = asked.second {
+        let axes = [first, axis_of(alloc, scenario, values)?];
+        run_sweep(alloc, scenario, &axes, form, progress, output)?;
+    } else if asked.finds {
+        return Ok(find_alarm(alloc, scenario, &[first], form, output)?);
+    } else {
+        run_sweep(alloc, scenario, &[first], form, progress, output)?;
+    }
+    Ok(FindOutcome::None)
+}
+
+/// Sweeps the scenario that an input is. The exit status says whether a value was found.
 pub(crate) fn write_sweep(
     console: &mut Console<'_>,
     asked: SweepOptions<'_>,
     input: NamedText<'_>,
 ) -> Result<u8, Stop> {
-    let alloc = console.rt.alloc();
-    let mut scenario = scenario_in(alloc, input)?;
-    let (progress, output) = (&mut console.progress, &mut console.output);
-    let first = axis_of(alloc, &scenario, asked.first)?;
-    let form = asked.form;
-    if let Some(values) = asked.second {
-        let axes = [first, axis_of(alloc, &scenario, values)?];
-        run_sweep(alloc, &mut scenario, &axes, form, progress, output)?;
-    } else if asked.finds {
-        let found = find_alarm(alloc, &mut scenario, &[first], form, output)?;
-        return Ok(status_of(console.rt, input, found));
-    } else {
-        run_sweep(alloc, &mut scenario, &[first], form, progress, output)?;
+    let mut scenario = scenario_in(console.rt.alloc(), input)?;
+    match sweep_scenario(console, asked, &mut scenario) {
+        Ok(found) => Ok(status_of(console.rt, input, found)),
+        Err(stop) => Err(stop),
     }
-    Ok(0)
 }

@@ -13,7 +13,6 @@ use agc_explore::{Exploration, ExploreOptions, ReachStatus, explore, with_endles
 use agc_peaks::{RunSummary, put_differences, scenario_bench, summary_of, write_jobs, write_peaks};
 use agc_plan::Alarm;
 use agc_play::{PlayFault, PlayOptions, play};
-use agc_session::RunFault;
 use agc_table::TableForm;
 use agc_text::{MOST_BYTES, alarm_code};
 use agc_trace::{TraceOptions, trace};
@@ -61,18 +60,37 @@ fn check_places(
     Ok(())
 }
 
-/// Writes the trace of the bench or the scenario that a text is. The exit status is 0.
-fn write_trace(
+/// Writes the trace, the peaks or the jobs of a bench or a scenario.
+fn write_run(
     console: &mut Console<'_>,
-    options: TraceOptions,
+    asked: Subcommand<'_>,
+    document: &RunnableDocument,
+) -> Result<(), Stop> {
+    let (alloc, subject) = (console.rt.alloc(), document.subject());
+    let (progress, output) = (&mut console.progress, &mut console.output);
+    match asked {
+        Subcommand::Trace(options) => {
+            check_places(alloc, document, options)?;
+            let _run = trace(alloc, subject, options, progress, output)?;
+        }
+        Subcommand::Jobs(form, eras) => write_jobs(alloc, subject, (form, eras), output)?,
+        Subcommand::Peaks(form) => write_peaks(alloc, subject, form, output)?,
+        _ => {}
+    }
+    Ok(())
+}
+
+/// Shows the run of the bench or the scenario that a text is. The exit status is 0.
+fn show_run(
+    console: &mut Console<'_>,
+    asked: Subcommand<'_>,
     input: NamedText<'_>,
 ) -> Result<u8, Stop> {
     let document = document_in(console.rt, input)?;
-    let alloc = console.rt.alloc();
-    check_places(alloc, &document, options)?;
-    let (progress, output) = (&mut console.progress, &mut console.output);
-    let _watched = trace(alloc, document.subject(), options, progress, output)?;
-    Ok(0)
+    match write_run(console, asked, &document) {
+        Ok(()) => Ok(0),
+        Err(stop) => Err(stop),
+    }
 }
 
 /// Says on standard error that no bench is written, and why, if one was asked for.
@@ -158,7 +176,10 @@ fn write_bench(console: &mut Console<'_>, input: NamedText<'_>) -> Result<u8, St
 /// The summary of the run of an input's document.
 fn summary_in(rt: &HostRuntime, input: NamedText<'_>) -> Result<RunSummary, Stop> {
     let document = document_in(rt, input)?;
-    Ok(summary_of(rt.alloc(), document.subject())?)
+    match summary_of(rt.alloc(), document.subject()) {
+        Ok(summary) => Ok(summary),
+        Err(fault) => Err(Stop::from(fault)),
+    }
 }
 
 /// Writes what differs between an input's document and that of a file. The exit status says whether
@@ -183,8 +204,11 @@ fn compare_with(
     };
     let summary = summary_in(rt, other)?;
     let documents = [(input.text, &before), (other.text, &summary)];
-    let differs = put_differences(rt.alloc(), documents, form, output)?;
-    Ok(if differs { YES } else { 0 })
+    match put_differences(rt.alloc(), documents, form, output) {
+        Ok(true) => Ok(YES),
+        Ok(false) => Ok(0),
+        Err(fault) => Err(Stop::from(fault)),
+    }
 }
 
 /// Does what is asked for of an input, and returns the exit status. A script has become a bench
@@ -196,27 +220,8 @@ pub(crate) fn work(
     input: NamedText<'_>,
 ) -> Result<u8, Stop> {
     match asked.subcommand {
-        Subcommand::Trace(options) => write_trace(console, options, input),
-        Subcommand::Peaks(form) => {
-            let document = document_in(console.rt, input)?;
-            write_peaks(
-                console.rt.alloc(),
-                document.subject(),
-                form,
-                &mut console.output,
-            )?;
-            Ok(0)
-        }
-        Subcommand::Jobs(form, eras) => {
-            let document = document_in(console.rt, input)?;
-            let form = (form, eras);
-            write_jobs(
-                console.rt.alloc(),
-                document.subject(),
-                form,
-                &mut console.output,
-            )?;
-            Ok(0)
+        Subcommand::Trace(_) | Subcommand::Jobs(..) | Subcommand::Peaks(_) => {
+            show_run(console, asked.subcommand, input)
         }
         Subcommand::Page(view, named) => write_page(console, (view, named), input),
         Subcommand::Check => check(console, input, asked.is_script),
