@@ -151,7 +151,7 @@ fn fill(row: &mut Row, look: Look, jobs: &AddressStatistics, name: Option<&str>)
 fn put_rows(table: &mut Table, statistics: &JobStatistics<'_>, timing: Option<&Timing>) {
     let has_deadline = statistics.rows.iter().any(|row| row.deadline.is_some());
     let look = Look {
-width: name_width(statistics, timing),
+        width: name_width(statistics, timing),
         time: timing.map(|_timing| statistics.instant),
         has_deadline: has_deadline || !table.is_text(),
     };
