@@ -1,6 +1,6 @@
 //! `agc_watch` shows the run of a bench, a scenario or a script, in one of several ways; `check`
-//! says what is wrong with one. It reads the file that is named, or standard input. `agc_watch play`
-//! answers each line of standard input before it reads the next.
+//! says what is wrong with one. It reads the file that is named, or standard input. `play` answers
+//! each line of standard input before it reads the next.
 #![tactic(auto)]
 
 mod checking;
