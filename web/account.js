@@ -12,7 +12,6 @@ import { Kind } from "../libagc/js/machine.js";
 import { actionOf } from "./because.js";
 import { alarmsOf } from "./drawing-words.js";
 import { LOG_FULL, SPENT } from "./run.js";
-import { FIRST_ASKED } from "./first.js";
 import { PLACES, counted, octal, seconds, visible } from "./words.js";
 
 /** What is full at each alarm, where that table is, and what comes before the list of those in it. */
@@ -39,8 +38,7 @@ function named(address, name) {
 /** What names a scenario has: those of jobs by their addresses, those of tasks by their rows. */
 export class Names {
   /** @param {import("./bench.js").Bench} bench */
-  constructor({ job, task, seconds: length }) {
-    this.isTimed = length !== undefined;
+  constructor({ job, task }) {
     /** @type {Map<string, string>} */
     this.jobs = new Map();
     /** @type {Map<string, string>} */
@@ -49,11 +47,6 @@ export class Names {
     for (const it of task) {
       if (it.name !== undefined) this.tasks.set(`${it.at} ${it.bank}`, visible(it.name));
     }
-  }
-
-  /** A priority: in a scenario as a decimal; else as a request has it, in octal. @param {number} priority */
-  priority(priority) {
-    return this.isTimed ? String(priority) : octal(priority, 2);
   }
 
   /** What a job at this address is called. @param {number} at */
@@ -123,7 +116,7 @@ function holders(run, { step, scene, jobsSince, tasksSince }, names) {
     if (job === null) return [];
     const area = job.area === 0 ? "" : `, area ${job.area}`;
     const at = job.asleep ? `, asleep at ${names.ofJob(job.at)}` : `, at ${names.ofJob(job.at)}`;
-    const told = `set ${k}: job ${job.number}, priority ${names.priority(job.priority)}${at}${area}`;
+    const told = `set ${k}: job ${job.number}, priority ${octal(job.priority, 2)}${at}${area}`;
     return [told, ...sinceOf(run, jobsSince[k])];
   });
   const isHolder = scene.sets.map((job) => step.number === 0o1202 || (job?.area ?? 0) > 0);
@@ -145,7 +138,7 @@ function balance(run, { row, era, begun, ended, step }) {
 function everyone({ sets, tasks }, names) {
   return [
     ...sets.flatMap((job) =>
-      (job === null ? [] : [`job ${job.number}, priority ${names.priority(job.priority)}, at ${names.ofJob(job.at)}`])),
+      (job === null ? [] : [`job ${job.number}, priority ${octal(job.priority, 2)}, at ${names.ofJob(job.at)}`])),
     ...tasks.map((it) => `task ${names.ofTask(it)} in ${seconds(it.left)}`),
   ];
 }
@@ -211,10 +204,9 @@ function accountOfBeginning(run, shown, names, { about, count }) {
   if (power === undefined) {
     const asked = count === 0 ? "Nothing has been asked" : "No request has been served yet";
     const isNew = count === 0 && run.source.document === "" && about === "";
-    const first = isNew ? [["Try these, or press Run:"], ...FIRST_ASKED.map(([line, what]) =>
-      [{ text: `\`${line}\` ${what}.`, isProse: true }])] : [];
+    const first = isNew ? [["Say above which jobs come again and again, and press Run. Or ask for one request after the other, below: the tables show what it does."]] : [];
     const lines = about !== "" ? said
-      : [[`${asked}: there is no job, no task waits, and all phases are 0.`], ...first];
+      : [...first, [`${asked}: there is no job, no task waits, and all phases are 0.`]];
     return { heading: "The beginning", lines: [...lines, ...follow], isAlarm: false };
   }
   const isBroken = shown.reply.startsWith("alarm");

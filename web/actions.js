@@ -7,12 +7,12 @@
  * @typedef {import("./run.js").Run} Run
  */
 import { scenarioOf } from "./build.js";
-import { countOf, emptyBench, hasBase, readBench, requestsOf, writeBench } from "./bench.js";
-import { fillOn, nextText, passOne, repeatedOf, runOf, runWith, speedOf, step } from "./clock.js";
+import { countOf, emptyBench, hasBase, readBench, requestsOf } from "./bench.js";
+import { fillOn, nextText, passOne, runOf, runWith, speedOf, step } from "./clock.js";
 import { told as toldOf } from "./examples.js";
 import { documentOfScript, isScript } from "./forgive.js";
 import { firstSentence, questionOf, withoutQuestion } from "./files.js";
-import { branched, exchanged, goingOn, left, stepped, NOTHING_DONE } from "./history.js";
+import { goingOn, left, stepped, NOTHING_DONE } from "./history.js";
 import { judged } from "./predict.js";
 import { MOST_ASKED, NO_SOURCE, STRETCH } from "./run.js";
 import { scaleOf, shownOf } from "./state.js";
@@ -33,15 +33,15 @@ const [LONG, BEYOND] = [9000, 1.15];
 export const NEW_BENCH = Object.freeze({ ...emptyBench(), limit: 1_000_000 });
 
 const NOBODY = Object.freeze({ run: null, at: -1, text: "" });
-const UNMOVED = Object.freeze({ slider: "", run: null, at: 0, isWhole: false });
+const UNMOVED = Object.freeze({ slider: "", run: null, at: 0 });
 
 /** The state in which the page begins. @param {any} given */
 export function firstState(given) {
   return {
     run: runOf(NEW_BENCH, []), count: 0, at: 0, isAfter: false, seen: null,
-    clock: { isRunning: false, speed: null, isHere: false }, dialog: null, touched: null,
-    opened: [], swept: ["Stolen time"], selection: null, built: null, isEditing: false, isProjected: false, isEmbedded: false, before: null, beside: null,
-    hidden: [], predicted: [], tries: 0, history: NOTHING_DONE, moved: UNMOVED, edited: null, note: NOBODY, said: NOBODY,
+    clock: { isRunning: false, speed: null }, dialog: null, touched: null,
+    opened: [], swept: ["Stolen time"], selection: null, built: null, isEditing: false, isProjected: false, isEmbedded: false, before: null,
+    hidden: [], predicted: [], history: NOTHING_DONE, moved: UNMOVED, edited: null, note: NOBODY, said: NOBODY,
     tour: { step: 0, tried: [] }, ...given,
   };
 }
@@ -107,8 +107,8 @@ function begun(s, bench, more) {
   }
   const run = runOf(bench, requestsOf(bench), { isOpened: true, source: NO_SOURCE, about: "", ...more }, SOON);
   const isTour = s.tour.step > 0 && run.source.exercise === s.run.source.exercise && run.source.document === s.run.source.document;
-  return { ...shownAgain, run, count: run.count, at: 0, seen: firstSeen(run), before: null, beside: null, touched: null, selection: null, dialog: null,
-    history: { ...left(s.history, s), branches: [] }, moved: UNMOVED, tour: isTour ? s.tour : { step: 0, tried: [] },
+  return { ...shownAgain, run, count: run.count, at: 0, seen: firstSeen(run), before: null, touched: null, selection: null, dialog: null,
+    history: left(s.history, s), moved: UNMOVED, tour: isTour ? s.tour : { step: 0, tried: [] },
     clock: { ...s.clock, isRunning: false, speed: null } };
 }
 
@@ -129,7 +129,7 @@ function openedKept(s, name) {
   if (kept.kind !== "exercise") return opened(s, kept.text, name, { ...NO_SOURCE, exercise: name }, toldOf(name)?.[0]);
   const source = { ...NO_SOURCE, exercise: name, question: visible(questionOf(kept.text)) };
   const change = opened(s, withoutQuestion(kept.text), name, source);
-  return { ...change, hidden: [...s.hidden, change.run.source], predicted: [], tries: 0 };
+  return { ...change, hidden: [...s.hidden, change.run.source], predicted: [] };
 }
 
 /** What is still hidden once the answer of the exercise that is open is shown. @param {State} s */
@@ -156,58 +156,34 @@ function changedTo(s, text) {
 
 /** Asks a request behind the row that is shown. @param {State} s @param {string} line @param {string} who */
 function ask(s, line, who) {
-  const { run, history } = goingOn(s.history, s);
+  const run = goingOn(s);
   run.isFilling = false;
   run.ask(line, who);
   const after = s.count - s.at;
-  const next = { ...shownAgain, run, count: run.count, at: run.count, clock: stopped(s), beside: null, history: left(history, s) };
+  const next = { ...shownAgain, run, count: run.count, at: run.count, clock: stopped(s), history: left(s.history, s) };
   const now = { ...s, ...next, seen: followed({ ...s, ...next }, run.count) };
   const aside = after === 1 ? "The 1 request that followed is set aside; Undo brings it back."
     : `The ${after} requests that followed are set aside; Undo brings them back.`;
   return { ...next, seen: now.seen, ...(after > 0 ? noted(now, aside) : {}) };
 }
 
-/** Whether what is changed holds from the beginning of a scenario. @param {State} s */
-export function isWhole(s) {
-  return !s.clock.isHere && s.run.bench.seconds !== undefined;
-}
-
-/** What a branch is called that was left as such a number was changed. */
-const CHANGED = { steal: "stolen time was changed", job: "a cost was changed", seed: "the seed was changed", event: "an event was changed",
-  sets: "the core sets were changed", task: "a period was changed", phase: "a priority was changed" };
-
 /**
- * Goes on with other numbers: from the beginning, or from the row that is shown. A slider that is moved on,
- * after nothing else, changes what it changed before; the run before that stays on the chart.
- * @param {State} s @param {any} given @param {boolean} whole @param {string} slider
+ * Runs the document with other numbers, and goes to the same time. A slider that is moved on, after nothing
+ * else, changes what it changed before; the run before that stays on the chart.
+ * @param {State} s @param {any} given @param {string} slider
  */
-function change(s, given, whole = isWhole(s), slider = "") {
+function change(s, given, slider = "") {
   const { moved } = s;
-  const isMoved = slider !== "" && moved.slider === slider && moved.run === s.run && moved.at === s.at && moved.isWhole === whole;
-  const why = `as ${CHANGED[/** @type {keyof typeof CHANGED} */ (Object.keys(given)[0])]}`;
-  const base = isMoved ? { ...s, ...stepped(s.history, s, "done") }
-    : { ...s, before: { run: s.run, count: s.count }, history: branched(s.history, s, why) };
+  const isMoved = slider !== "" && moved.slider === slider && moved.run === s.run && moved.at === s.at;
+  const base = isMoved ? { ...s, ...stepped(s.history, s, "done") } : { ...s, before: { run: s.run, count: s.count } };
   const { run: old } = base;
-  const from = whole || "sets" in given || "task" in given ? 0 : base.at;
   const time = old.ticksAt(base.at);
-  const run = runWith(old, from, given, Math.max(time, s.seen?.to ?? 0));
-  const at = from === 0 ? run.rowAtTime(time, run.count) : base.at;
+  const run = runWith(old, given, Math.max(time, s.seen?.to ?? 0));
+  const at = run.bench.seconds === undefined ? Math.min(base.at, run.count) : run.rowAtTime(time, run.count);
   // (the speed stays: it was chosen for what came before)
   const clock = { ...stopped(s), speed: s.clock.speed ?? speedOf(s.run, false) };
-  return { ...shownAgain, run, count: run.count, at, before: base.before, beside: null, hidden: revealed(s), clock, seen: s.seen,
-    history: left(base.history, base), moved: { slider, run, at, isWhole: whole } };
-}
-
-/** The same requests with room for a million. @param {State} s */
-function withRoom(s) {
-  const { run, count, at } = s;
-  const bench = { ...run.bench, limit: 1_000_000 };
-  const asked = bench.seconds === undefined ? run.requests(count) : [];
-  const source = { ...run.source, document: writeBench(bench), isChanged: true };
-  const made = runOf(bench, asked, { title: visible(bench.title ?? run.title), about: run.about, source });
-  const history = left(branched(s.history, s, "to have more room"), s);
-  return { ...shownAgain, run: made, count: made.count, at: Math.min(at, made.count), history, before: { run, count }, beside: null,
-    dialog: null, clock: stopped(s) };
+  return { ...shownAgain, run, count: run.count, at, before: base.before, hidden: revealed(s), clock, seen: s.seen,
+    history: left(base.history, base), moved: { slider, run, at } };
 }
 
 /** Runs a document as it is typed: what is typed on, after nothing else, is one step of undo. @param {State} s @param {string} text */
@@ -221,20 +197,15 @@ function edited(s, text) {
   const time = s.run.ticksAt(s.at);
   const run = runOf(bench, requestsOf(bench), { isOpened: true, title: visible(bench.title ?? title), source,
     about: isOwn ? visible(questionOf(text)).replaceAll("\n", " ") : s.run.about }, time);
-  return { ...shownAgain, run, count: run.count, at: Math.min(run.count, run.rowAtTime(time, run.count)), before: base.before, beside: null,
+  return { ...shownAgain, run, count: run.count, at: Math.min(run.count, run.rowAtTime(time, run.count)), before: base.before,
     history: left(base.history, base), edited: run, clock: stopped(s) };
-}
-
-/** The same requests with eight core sets, beside. @param {State} s */
-function besideSets({ run, count }) {
-  return { beside: { run: repeatedOf({ ...run.bench, sets: 8 }, run.requests(count)), name: "with 8 core sets" }, dialog: null };
 }
 
 /** Where the clock goes on: the run to which rows are added, behind the row that is shown. @param {State} s */
 function toAddTo(s) {
-  const { run, history } = goingOn(s.history, s);
+  const run = goingOn(s);
   run.isFilling = false;
-  return { ...shownAgain, run, count: run.count, at: run.count, history: left(history, s) };
+  return { ...shownAgain, run, count: run.count, at: run.count, history: left(s.history, s) };
 }
 
 /** The rows that the clock has added are shown. @param {State} s */
@@ -346,9 +317,9 @@ const GUESS_SEEN = 4500;
 /** A guess of the tour is run: from the beginning of the document itself, so that guesses don't add up. @param {State} s @param {string} name */
 function guess(s, name) {
   const first = s.tour.tried.length === 0 ? s.run : s.before?.run ?? s.run;
-  const base = { ...s, run: first, count: first.count, at: Math.min(first.count, first.rowAtTime(s.run.ticksAt(s.at), first.count)), clock: { ...s.clock, isHere: false } };
+  const base = { ...s, run: first, count: first.count, at: Math.min(first.count, first.rowAtTime(s.run.ticksAt(s.at), first.count)) };
   const made = s.tour.tried.find((it) => it.name === name) ?? null;
-  const next = made === null ? change(base, GUESSES[name].given(first.given), true) : { ...s, run: made.run, count: made.run.count,
+  const next = made === null ? change(base, GUESSES[name].given(first.given)) : { ...s, run: made.run, count: made.run.count,
     at: made.run.rowAtTime(s.run.ticksAt(s.at), made.run.count), history: left(s.history, s), before: s.before, ...shownAgain, clock: stopped(s) };
   const tried = made === null ? [...s.tour.tried, { name, run: next.run }] : s.tour.tried;
   const seen = s.seen === null ? null : { from: s.seen.from, to: Math.max(s.seen.to, GUESS_SEEN) };
@@ -377,13 +348,9 @@ export const ACTIONS = {
   "change-next": (s) => seek(s, (row) => s.run.isChange(row), 1, "change"),
   "change-back": (s) => seek(s, (row) => s.run.isChange(row), -1, "change"),
   typed: goTyped,
-  undo: (s) => ({ ...stepped(s.history, s, "done"), ...shownAgain, before: null, beside: null, clock: stopped(s) }),
-  redo: (s) => ({ ...stepped(s.history, s, "undone"), ...shownAgain, before: null, beside: null, clock: stopped(s) }),
-  branch: (s, k) => ({ ...shownAgain, ...exchanged(s.history, s, k), clock: stopped(s) }),
-  compare: (s, other) => ({ beside: s.beside?.run === other.run ? null : { run: other.run, name: other.name } }),
-  "beside-sets-button": (s) => (s.beside === null ? besideSets(s) : { beside: null, dialog: null }),
-  "beside-stop": () => ({ beside: null }),
-  dismiss: () => ({ before: null, beside: null }),
+  undo: (s) => ({ ...stepped(s.history, s, "done"), ...shownAgain, before: null, clock: stopped(s) }),
+  redo: (s) => ({ ...stepped(s.history, s, "undone"), ...shownAgain, before: null, clock: stopped(s) }),
+  dismiss: () => ({ before: null }),
 
   run(s) {
     if (s.clock.isRunning) return { clock: stopped(s) };
@@ -396,7 +363,6 @@ export const ACTIONS = {
   tick: (s) => pass(s, "tick"),
   event: (s) => pass(s, "event"),
   speed: (s, speed) => ({ clock: { ...s.clock, speed: Number(speed) } }),
-  here: (s, isHere) => ({ clock: { ...s.clock, isHere } }),
   /** More of a run that is filled in the background is there. */
   filled: (s, run) => (s.run === run && s.count < run.count ? { count: run.count } : { clock: { ...s.clock } }),
 
@@ -419,9 +385,8 @@ export const ACTIONS = {
   },
   change,
   guess,
-  without: (s, name) => change(s, { event: eventsWithout(s.run.bench.event, s.run.bench.event.find((it) => it.name === name)) }, true),
+  without: (s, name) => change(s, { event: eventsWithout(s.run.bench.event, s.run.bench.event.find((it) => it.name === name)) }),
   edited,
-  room: withRoom,
 
   begin: (s, bench, more) => begun(s, bench, more),
   kept: (s, name) => orTold(s, () => openedKept(s, name)),
@@ -429,22 +394,21 @@ export const ACTIONS = {
     const source = isExercise ? changedTo(s, text) : NO_SOURCE;
     return opened(s, text, name, source);
   }),
-  new: (s) => ({ ...begun(s, NEW_BENCH, { title: "An empty bench" }), built: { jobs: [], document: "" } }),
+  new: (s) => ({ ...begun(s, NEW_BENCH, { title: "An empty bench" }), built: "" }),
   /** The scenario of the form of New, with its document beside. */
   build(s, jobs) {
     if (jobs.length === 0) return ACTIONS.new(s);
     const document = scenarioOf(jobs);
-    return { ...opened(s, document, "My jobs"), built: { jobs, document }, isEditing: true };
+    return { ...opened(s, document, "My jobs"), built: document, isEditing: true };
   },
   reveal: (s) => ({ hidden: revealed(s) }),
-  /** What is expected of an exercise: a first wrong try gets a hint, and what is left empty stays open. */
+  /** What is expected of an exercise: what is wrong gets a hint, and only what is all right shows what happens. */
   check(s, given) {
     const { count } = whole(s);
     const all = judged(s, given);
     if (all.length === 0) return noted(s, "Say first what you expect, or press Show what happens.");
-    const isWrong = all.some((it) => !it.isRight);
-    const isShown = isWrong ? s.tries > 0 : all.length === given.length;
-    return { count, predicted: given, tries: s.tries + Number(isWrong), ...(isShown ? { hidden: revealed(s) } : {}) };
+    const isRight = all.length === given.length && all.every((it) => it.isRight);
+    return { count, predicted: given, ...(isRight ? { hidden: revealed(s) } : {}) };
   },
 
   touch: (s, list, k) => ({ touched: { list, k } }),

@@ -2,21 +2,14 @@
  * The address says what is shown, so that F5, Back, a copied address and a saved link bring it back:
  * `#DOCUMENT&at=ROW&see=FROM-TO&do=DATA&was=DATA&shown&embed`. The document is the name of an example or an
  * exercise, `new`, `bench=DATA`, or nothing for the one within the page. `do` has what was done to
- * the document's run, and `was` what was done to the run before: rows by hand, other numbers of the clock, another plan. Where the browser has
- * storage, undo and branches are kept there, as such addresses.
+ * the document's run, and `was` what was done to the run before: other numbers, and rows by hand.
  *
  * @typedef {import("./run.js").Run} Run
- * @typedef {{ plan?: any, parts: any[] }} Recipe
+ * @typedef {{ given?: any, parts: any[] }} Recipe `given`: other numbers of the bench
  */
 import { readBench, requestsOf, writeBench } from "./bench.js";
 import { packed, unpacked } from "./files.js";
 import { CHANGING, STRETCH, isAlike, isClock } from "./run.js";
-
-const STORED = "agc-workbench-undo";
-
-/** How many steps and branches are kept over F5, and how many letters these may have. */
-export const MOST_STORED = 12;
-const MOST_LETTERS = 1_000_000;
 
 /** The run before is just what its document asks for. */
 export const AS_IT_WAS = "0";
@@ -27,31 +20,25 @@ export class Damaged extends Error {}
 /** What was done to a run, up to a row: nothing where it is just what its document asks for. @param {Run} run @param {number} count @returns {Recipe | null} */
 export function recipeOf(run, count) {
   const asked = requestsOf(run.given);
-  const first = run.changes[0]?.before ?? run.bench;
-  const [times, plan] = [CHANGING.clock, CHANGING.plan].map((names) => Object.fromEntries(names.flatMap((it) => (isAlike(first[it], run.given[it]) ? [] : [[it, first[it]]]))));
+  const given = Object.fromEntries(CHANGING.flatMap((it) => (isAlike(run.bench[it], run.given[it]) ? [] : [[it, run.bench[it]]])));
   /** @type {any[]} */
-  const parts = Object.keys(times).length === 0 ? [] : [["s", times]];
+  const parts = [];
   const add = (/** @type {string} */ kind) => {
     const last = parts.at(-1);
     if (last?.[0] === kind) last[1] += 1;
     else parts.push([kind, 1]);
   };
-  const changes = run.changes.filter((it) => it.row <= count);
-  for (let row = 0, at = 0; row <= count; row++) {
-    if (row > 0) {
-      const [line, who] = [run.lines[row], run.whoAsked(row)];
-      const next = run.isByClock(row) ? null : asked.next().value;
-      if (run.isByClock(row)) add("c");
-      else if (next?.[0] === line && next[1] === who) add("d");
-      else parts.push(["y", line, who]);
-    }
-    while (changes[at]?.row === row) parts.push(["s", changes[at++].given]);
+  for (let row = 1; row <= count; row++) {
+    const [line, who] = [run.lines[row], run.whoAsked(row)];
+    const next = run.isByClock(row) ? null : asked.next().value;
+    if (run.isByClock(row)) add("c");
+    else if (next?.[0] === line && next[1] === who) add("d");
+    else parts.push(["y", line, who]);
   }
-  const isPlan = Object.keys(plan).length > 0;
   const isPlain = parts.every((it) => it[0] === "d" || it[0] === "c")
     && (run.given.seconds !== undefined || parts.every((it) => it[0] === "d"));
-  if (isPlain && !isPlan && count === run.count) return null;
-  return { ...(isPlan ? { plan } : {}), parts };
+  if (isPlain && Object.keys(given).length === 0 && count === run.count) return null;
+  return { given, parts };
 }
 
 /**
@@ -77,7 +64,6 @@ export async function follow(run, { parts }, passTime, others) {
   for (const [kind, one, who] of parts) {
     if (kind === "c") await ask(one, (most) => passTime(run, most));
     else if (kind === "y") run.ask(String(one), String(who));
-    else if (kind === "s") run.change(one, one);
     else if (kind !== "d") throw new Damaged("it has a part of an unknown kind");
     else if (await ask(one, (most) => run.askSome(asked, most))) throw new Damaged("it asks for more than its document has");
   }
@@ -111,30 +97,28 @@ export function readAddress(mark) {
   return found;
 }
 
-/** Whether these are numbers of a bench that a recipe may have changed, such as its document might have. @param {any} given @param {string[]} names @param {import("./bench.js").Bench} bench */
-function areOf(given, names, bench) {
+/** Whether these are numbers of a bench that a recipe may have changed, such as its document might have. @param {any} given @param {import("./bench.js").Bench} bench */
+function areOf(given, bench) {
   const isObject = typeof given === "object" && !Array.isArray(given);
-  if (!isObject || !Object.keys(given).every((it) => names.includes(it))) return false;
+  if (!isObject || !Object.keys(given).every((it) => CHANGING.includes(/** @type {any} */ (it)))) return false;
   readBench(writeBench({ ...bench, seconds: bench.seconds ?? 1, ...given }));
   return true;
 }
 
-/** Whether this is a part of what was done: rows of the document or of the clock, one by somebody else, or other numbers. @param {any} part @param {import("./bench.js").Bench} bench */
-function isPart(part, bench) {
+/** Whether this is a part of what was done: rows of the document or of the clock, or one by somebody else. @param {any} part */
+function isPart(part) {
   if (!Array.isArray(part)) return false;
   const [kind, one, who] = part;
   if (kind === "c" || kind === "d") return Number.isSafeInteger(one) && one >= 0;
-  if (kind === "s") return areOf(one, CHANGING.clock, bench);
   return kind === "y" && typeof one === "string" && typeof who === "string" && !isClock(who);
 }
 
 /** What was done to a run of this bench. @param {string} data @param {import("./bench.js").Bench} bench */
 export async function readRecipe(data, bench) {
   try {
-    const { plan = {}, parts } = JSON.parse(await unpacked(data));
-    const isWhole = areOf(plan, CHANGING.plan, bench) && parts.every((/** @type {any} */ it) => isPart(it, bench));
-    if (!isWhole) throw new Damaged("");
-    return /** @type {Recipe} */ ({ plan, parts });
+    const { given, parts } = JSON.parse(await unpacked(data));
+    if (!areOf(given, bench) || !parts.every(isPart)) throw new Damaged("");
+    return /** @type {Recipe} */ ({ given, parts });
   } catch {
     throw new Damaged("what was done can't be read: it may be cut");
   }
@@ -166,24 +150,3 @@ export async function documentMark(view, kept, own, isHidden = false) {
 
 /** The marks that were worked out last. @type {WeakMap<Run, { mark: string, state: string }>} */
 const marks = new WeakMap();
-
-/** Keeps undo and branches, where there is storage. @param {any} given */
-export function store(given) {
-  try {
-    const text = JSON.stringify(given);
-    if (text.length < MOST_LETTERS) sessionStorage.setItem(STORED, text);
-  } catch {
-    // (a browser that keeps nothing has the address alone)
-  }
-}
-
-/** What was kept of this place of the browser's history. @param {any} state */
-export function stored(state) {
-  try {
-    const found = JSON.parse(sessionStorage.getItem(STORED) ?? "null");
-    const isWhole = [found?.done, found?.undone, found?.branches].every(Array.isArray);
-    return isWhole && found.id === state?.id ? found : null;
-  } catch {
-    return null;
-  }
-}

@@ -2,6 +2,7 @@
  * Why a table was full, in one sentence with the numbers of the run: whose jobs fill it, how much computing
  * time each needs, and how much it gets of every so many seconds.
  */
+import { NO_ORDER, boundsOf } from "./bounds.js";
 import { lateAt } from "./jobs.js";
 import { State } from "./lanes.js";
 import { stolenParts } from "./stolen.js";
@@ -123,9 +124,9 @@ export function lateOf(run, { row, scene: { sets }, jobsFrom }, names) {
     .flatMap((it) => (gotBy(run, it, born, row) >= 1 ? [`${names.job(it) ?? octal(it, 5)} has had ${short(Math.round(gotBy(run, it, born, row)))} of computing`] : []));
   const got = Math.round(gotBy(run, at, born, row));
   const [first, own] = [sets[0], sets.find((it, k) => it !== null && jobsFrom[k] === at)].map((it) => it?.priority ?? 0);
-  const order = first <= own ? "" : ` First goes ${names.job(jobsFrom[0]) ?? "what runs"}, by its priority ${names.priority(first)}: ${name} has ${names.priority(own)}.`;
+  const order = first <= own ? "" : ` First goes ${names.job(jobsFrom[0]) ?? "what runs"}, by its priority ${octal(first, 2)}: ${name} has ${octal(own, 2)}.`;
   return { name, at, text: `${name} was asked for at ${seconds(run.ticksAt(born))} and had to end by ${took(due, 100)}. `
-    + `Since then ${[...others, `${name} ${got === 0 ? "none" : short(got)}`].join(", ")}.${order}` };
+    + `Since then ${[...others, `${name} ${got === 0 ? "none" : short(got)}`].join(", ")}.${order}${boundsOf(run.bench)?.hasOrder === false ? ` ${NO_ORDER}` : ""}` };
 }
 
 /** The sentence; nothing where no job comes again and again. @param {import("./run.js").Run} run @param {import("./run.js").Shown} shown @param {import("./account.js").Names} names */

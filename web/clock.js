@@ -6,7 +6,6 @@
  */
 import { Clock } from "../libagc/js/machine.js";
 import { MOST_ROWS, Run } from "./run.js";
-import { stolenSince } from "./stolen.js";
 import { visible } from "./words.js";
 
 /** How many times real time, which the clock may run. */
@@ -55,14 +54,6 @@ export function fill(run, until) {
   fillOn(run, AT_ONCE);
 }
 
-/** The same requests of another bench: what is left after a moment comes in the background. @param {Bench} bench @param {Generator<[string, string]>} requests */
-export function repeatedOf(bench, requests) {
-  const run = begunOf(bench);
-  run.pending = requests;
-  fill(run, 0);
-  return run;
-}
-
 /** Goes on with filling for some milliseconds. @param {Run} run */
 export function fillOn(run, most = BETWEEN) {
   const begun = performance.now();
@@ -73,7 +64,6 @@ export function fillOn(run, most = BETWEEN) {
 export function passTime(run, most) {
   const left = Math.min(most, MOST_ROWS - run.count);
   if (left <= 0) return true;
-  if (run.pending !== null) return run.askSome(run.pending, left);
   if (run.hasRoomFor(left)) return run.askByClock(left, (it) => whoOf(run, it)) < left;
   for (let k = 0; k < left; k++) if (!step(run)) return true;
   return false;
@@ -109,27 +99,9 @@ export function speedOf(run, isHidden) {
   return SPEEDS.find((it) => it >= 1 && it * PATIENCE >= ticks) ?? 100;
 }
 
-/**
- * A run that goes on with other numbers from a row on: from the beginning where it is row 0, or where
- * these are of the plan.
- * @param {Run} old @param {number} from @param {any} given @param {number} until what is seen at once, in ticks
- */
-export function runWith(old, from, given, until) {
+/** The run of a document with other numbers. @param {Run} old @param {any} given @param {number} until what is seen at once, in ticks */
+export function runWith(old, given, until) {
   const { title, about, source, given: document } = old;
-  const isTimed = old.bench.seconds !== undefined;
-  if ("sets" in given || "task" in given) {
-    return runOf({ ...old.bench, ...given }, [], { title, about, source, given: document }, until);
-  }
-  const run = old.fork(from);
-  run.change(sinceThen(run, run.ticksAt(from), given), given);
-  if (isTimed) fill(run, until);
-  return run;
-}
-
-/** Stolen time that is changed later on has its times with it. @param {Run} run @param {number} now @param {any} given */
-function sinceThen(run, now, given) {
-  if (given.steal === undefined || now === 0) return given;
-  const end = (run.bench.seconds ?? LONGEST) * 100;
-  const next = typeof given.steal === "number" ? [{ from: now, to: end, percent: given.steal }] : given.steal;
-  return now >= end ? {} : { steal: stolenSince(run.bench.steal, now, next) };
+  const requests = old.bench.seconds === undefined ? old.requests(old.count) : [];
+  return runOf({ ...old.bench, ...given }, requests, { title, about, source, given: document }, until);
 }

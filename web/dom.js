@@ -1,4 +1,5 @@
 /** Elements of the page: finding, making and filling them. All text is set as text. */
+import { octal } from "./words.js";
 
 /** The element of this name. @param {string} id @returns {any} */
 export function by(id) {
@@ -53,23 +54,31 @@ export function withCode(text) {
     : it.split(/\*([^*]+)\*/).flatMap((one, n) => (n % 2 === 1 ? [make("em", {}, one)] : withLinks(one)))));
 }
 
-/** A document in which each line of its script has the number of its first request beside it. @param {string} text @returns {(Node | string)[]} */
+/** A document whose script is its requests alone, each line with the number of its first one. @param {string} text @returns {(Node | string)[]} */
 export function withNumbers(text) {
   const script = text.startsWith("[") ? null : /^script = \[\n[^\]]*/m.exec(text);
   if (script === null) return [text];
   const end = script.index + script[0].length;
   let next = 1;
-  const lines = script[0].split(/^/m).map((line) => {
-    const first = next;
-    next += line.match(/"[^"]*"/g)?.length ?? 0;
-    return make("span", { class: "line", "data-first": next > first ? String(first) : "" }, line);
+  const lines = script[0].split("\n").flatMap((line) => {
+    const requests = line.match(/"[^"]*"/g) ?? [];
+    const first = String(next);
+    next += requests.length;
+    return requests.length === 0 ? [] : [make("span", { class: "line", "data-first": first }, `${requests.map((it) => it.slice(1, -1)).join(", ")}\n`)];
   });
-  return [text.slice(0, script.index), ...lines, make("span", { class: "line", "data-first": "" }, "]"), text.slice(end + 1)];
+  return [text.slice(0, script.index), ...lines, text.slice(end + 1).trimStart()];
 }
 
 /** Gives an element just these children. @param {string | HTMLElement} where @param {(Node | string)[]} children */
 export function fill(where, children) {
   (typeof where === "string" ? by(where) : where).replaceChildren(...children);
+}
+
+/** A choice of priorities, as requests have them. @param {number} value @param {Record<string, any>} [given] */
+export function priorities(value, given = {}) {
+  const made = make("select", given, ...Array.from({ length: 31 }, (_, k) => make("option", {}, octal(k + 1, 2))));
+  made.value = octal(value, 2);
+  return made;
 }
 
 /** A button that does something. @param {string} text @param {() => void} run @param {Record<string, any>} given */

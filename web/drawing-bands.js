@@ -4,7 +4,6 @@
  * work each job adds and how much is done, and beside the alarm's line whose jobs hold the table.
  *
  * @typedef {import("./drawing.js").Sheet} Sheet
- * @typedef {import("./drawing.js").Edge} Edge
  */
 import { causeOf, needsOf, short } from "./because.js";
 import { ROUND } from "./drawing-lanes.js";
@@ -15,9 +14,8 @@ import { seconds } from "./words.js";
 /** How many lanes the work is high, and how many lines of text the budget; and the least work at the top. */
 const [WORK_LANES, BUDGET_LINES, LEAST_WORK] = [3.6, 2.2, 5_000];
 
-/** The budget's bar ends with a multiple of so many percent, and at least here; how wide its plot is at least; and the most
- * that a job costs, and how far it is dragged at least, in centiseconds. */
-const [STEP, LEAST_BAR, LEAST_TOLD, MOST_COST, LEAST_RANGE] = [25, 125, 500, 1_000_000, 400];
+/** The budget's bar ends with a multiple of so many percent, and at least here; and how wide its plot is at least. */
+const [STEP, LEAST_BAR, LEAST_TOLD] = [25, 125, 500];
 
 /** How much of the way to the alarm a note at the curve has; and how wide a plot with its arrow is at least. */
 const [ROOM, LEAST_WIDE] = [0.62, 400];
@@ -113,17 +111,15 @@ export function drawBudget(sheet) {
   const [top, high] = [sheet.y + 6, Math.round(BUDGET_LINES * sheet.line)];
   const over = total > 100 ? `${total - 100} % too much` : `${100 - total} % free`;
   const period = `${seconds(asked.from).replace(/[.]?0* s$/, "")} to ${short(asked.to)}`;
-  const sums = right - left < LEAST_TOLD ? [`= ${total} %`, period] : [`= ${total} % of ${period}`, over];
+  const where = sheet.parts.has("notes") ? `in view, ${period}` : `of ${period}`;
+  const sums = right - left < LEAST_TOLD ? [`= ${total} %`, period] : [`= ${total} % ${where}`, over];
   const most = Math.max(LEAST_BAR, STEP * Math.ceil(total / STEP));
   const perPoint = most / (right - left - Math.max(...sums.map((it) => textWidth(it, size, true))) - 16);
   const all = left + 100 / perPoint;
-  const { steal } = run.bench;
   const parts = [
-    ...jobs.map((it) => ({ name: sheet.jobName(it.at), share: it.share, fill: `b${sheet.colours.of(it.at)}`,
-      ink: `i${sheet.colours.of(it.at)}`, edge: costEdge(run, it, perPoint) })),
-    { name: "stolen", share: stolen, fill: "stolen", ink: "ink",
-      edge: typeof steal === "number" ? { value: steal, perPoint, min: 0, max: 100, given: (/** @type {number} */ it) => ({ steal: it }) } : undefined },
-    ...(total < 100 ? [{ name: "free", share: 100 - total, fill: "paper", ink: "soft", edge: undefined }] : []),
+    ...jobs.map((it) => ({ name: sheet.jobName(it.at), share: it.share, fill: `b${sheet.colours.of(it.at)}`, ink: `i${sheet.colours.of(it.at)}` })),
+    { name: "stolen", share: stolen, fill: "stolen", ink: "ink" },
+    ...(total < 100 ? [{ name: "free", share: 100 - total, fill: "paper", ink: "soft" }] : []),
   ];
   sheet.name("budget", top + high / 2);
   const end = drawParts(sheet, parts.map((it) => ({ ...it, told: `of the time from ${period}` })), [top, high], perPoint);
@@ -134,24 +130,14 @@ export function drawBudget(sheet) {
   sheet.y = top + high + 6;
 }
 
-/** How a job's cost is changed by its edge; not at all where it is by lot. @param {import("./run.js").Run} run @param {{ at: number, perTick: number }} of @param {number} perPoint percent */
-function costEdge({ bench: { job } }, { at, perTick }, perPoint) {
-  const own = job.find((it) => parseInt(it.at, 8) === at);
-  if (typeof own?.cost !== "number") return undefined;
-  const max = Math.min(MOST_COST, Math.max(LEAST_RANGE, 2 * own.cost));
-  const given = (/** @type {number} */ cost) => ({ job: job.map((it) => (it === own ? { ...it, cost } : it)) });
-  return { value: own.cost, perPoint: perPoint / (100 * perTick), min: 1, max, given };
-}
-
 /** Parts side by side, up to 100 percent and beyond. Returns where they end.
- * @param {Sheet} sheet @param {{ name: string, share: number, fill: string, ink: string, told: string, edge?: Edge }[]} parts
+ * @param {Sheet} sheet @param {{ name: string, share: number, fill: string, ink: string, told: string }[]} parts
  * @param {number[]} lane top and height @param {number} perPoint percent */
 function drawParts(sheet, parts, [top, high], perPoint) {
   const all = sheet.left + 100 / perPoint;
   const bottom = top + high;
-  const edges = [];
   let x = sheet.left;
-  for (const { name, share, fill, ink, told, edge } of parts) {
+  for (const { name, share, fill, ink, told } of parts) {
     const [left, right] = [x, x + share / perPoint];
     const text = `${name} ${share} %`;
     x = right;
@@ -162,9 +148,7 @@ function drawParts(sheet, parts, [top, high], perPoint) {
     const middle = left < all && all < right ? all : left;
     const [begins, ends] = middle - left > right - middle ? [left, middle] : [middle, right];
     [name, `${share} %`].forEach((it, k) => sheet.label([it], [begins, ends, top + 2 + (k * (high - 4)) / 2, high / 2 - 2], { fill: ink, isBold: k === 0 }));
-    if (edge !== undefined) edges.push({ kind: "edge", name, edge, text: `${text}: drag`, left: right - 5, right: right + 5, top, bottom });
   }
-  sheet.bands.push(...edges);
   return x;
 }
 

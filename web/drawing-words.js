@@ -64,7 +64,7 @@ function tellWho({ run, names }, kind, id, key) {
   if (kind === "task") return [`task ${names.ofTask({ at: at.items[id], bank: bank.items[id] })}`, ...spanOf(run, "tasks", id)];
   const block = lanes.logs.set.map((_, k) => lanes.blockAt(k, key)).find((it) => it?.id === id);
   const moved = block === undefined || block?.now === at.items[id] ? "" : ` at ${names.ofJob(block?.now ?? 0)}`;
-  const how = !block ? [] : [`priority ${names.priority(block.priority)}, ${["", "runs", "waits", "sleeps"][block.state]}${moved}${block.area === 0 ? "" : `, VAC area ${block.area}`}`];
+  const how = !block ? [] : [`priority ${octal(block.priority, 2)}, ${["", "runs", "waits", "sleeps"][block.state]}${moved}${block.area === 0 ? "" : `, VAC area ${block.area}`}`];
   return [`job ${more.items[id]}, ${names.ofJob(at.items[id])}`, ...how, ...spanOf(run, "jobs", id)];
 }
 
@@ -86,7 +86,7 @@ export function hitAt(sheet, x, y) {
   const key = scale.keyAt(place);
   const row = key >> 1;
   const when = scale.isTime ? seconds(Math.floor(place)) : `request ${row}`;
-  const { kind, name, k = 0, row: own = 0, edge, text = "" } = band;
+  const { kind, name, k = 0, row: own = 0, text = "" } = band;
   switch (kind) {
     case "set": case "area": case "task": {
       const log = run.lanes.logs[kind][k];
@@ -97,7 +97,7 @@ export function hitAt(sheet, x, y) {
     case "work": return { kind, row, text: `${when}: jobs still need ${seconds(run.columns.waiting.items[row] / 100)} of computing` };
     case "alarm": return { kind, row: own, text: `${restartOf(run, own)}\n${whenOf(run, own)}` };
     case "strip": return { kind, name, row, text: `${when}: ${STRIPS[name ?? ""](run, row)}` };
-    default: return { kind, name, row: band.row, edge, text };
+    default: return { kind, name, row: band.row, text };
   }
 }
 

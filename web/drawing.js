@@ -19,8 +19,7 @@
  * @typedef {{ kind: "path", points: number[][], fill?: string, stroke?: string, width?: number, isDashed?: boolean,
  *   isArrow?: boolean, isHatch?: boolean, told?: Told }} Path `isHatch`: each two points are a line
  * @typedef {(Rect | Text | Path) & { ends?: number }} Mark `ends`: what is written on the lanes isn't drawn before that much is seen
- * @typedef {{ value: number, perPoint: number, min: number, max: number, given: (value: number) => any }} Edge what a slider gives
- * @typedef {{ kind: string, k?: number, id?: number, name?: string, row?: number, text?: string, edge?: Edge }} Hit
+ * @typedef {{ kind: string, k?: number, id?: number, name?: string, row?: number, text?: string }} Hit
  * @typedef {Hit & { top: number, bottom: number, left?: number, right?: number }} Band where something can be hit
  */
 import { Names } from "./account.js";

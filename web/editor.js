@@ -60,6 +60,8 @@ export function editor(now, before) {
   if (isEditing && before.isEditing === false) {
     field.value = text || writeBench(run.bench);
     tell("", 0);
+    // (who adds jobs by the form of New goes on there)
+    if (now.built === text) return;
     field.focus();
     field.setSelectionRange(0, 0);
     by("edit-box").scrollIntoView({ block: "nearest" });

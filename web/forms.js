@@ -1,10 +1,10 @@
 /** Buttons for the common requests: those that need numbers open a small form. And buttons for the requests of a bench's workers. */
-import { assign, button, by, fill, labelled, make, set } from "./dom.js";
+import { assign, button, by, fill, labelled, make, priorities, set } from "./dom.js";
 import { act, differ } from "./state.js";
 import { FORMS, MEANINGS, octal, visible } from "./words.js";
 
 /** The text in a field before it is filled. */
-const FIRST = { P: "20", A: "04000", W: "00005", D: "100", K: "1", G: "1", N: "1" };
+const FIRST = { P: 0o20, A: "04000", W: "00005", D: "100", K: "1", G: "1", N: "1" };
 
 /**
  * Names and addresses that a bench has for jobs and tasks, as choices of a field.
@@ -23,12 +23,7 @@ function addressChoices(id, bench, scene) {
 
 /** The field of a part of a line. @param {import("./words.js").Part} part */
 function fieldOf({ name, label, sentence }) {
-  if (name === "P") {
-    const all = Array.from({ length: 31 }, (_, k) => octal(k + 1, 2));
-    const made = make("select", { name }, ...all.map((it) => make("option", {}, it)));
-    made.value = FIRST.P;
-    return made;
-  }
+  if (name === "P") return priorities(FIRST.P, { name });
   return make("input", {
     ...{ type: "text", name, autocomplete: "off", spellcheck: false, title: sentence, size: 8 },
     ...(name === "A" ? { list: null } : {}),

@@ -1,12 +1,16 @@
 /** The table of jobs: what each needs and how often, how long it took, and who missed a deadline; a click goes there. */
 import { short } from "./because.js";
-import { assign, button, by, fill, make } from "./dom.js";
+import { NO_ORDER, boundsOf } from "./bounds.js";
+import { assign, button, by, fill, make, set } from "./dom.js";
 import { budgetOf } from "./work.js";
 import { jobsOf } from "./jobs.js";
 import { act, coloursOf, differ, isHidden, namesOf } from "./state.js";
 import { counted, octal, seconds, took } from "./words.js";
 
 /** @typedef {import("./state.js").State} State @typedef {import("./jobs.js").JobRow} JobRow */
+
+/** What the load is that is always safe. */
+const SAFE = "Of n kinds of jobs n (2^(1/n) - 1) of the time that isn't stolen: if the shorter period has the greater priority, and no deadline comes before the next job";
 
 const percent = (/** @type {number} */ part) => `${Math.round(100 * part)} %`;
 
@@ -16,16 +20,22 @@ function utilization({ cost, period }) {
   return (typeof cost === "number" ? cost : (cost.from + cost.to) / 2) / period;
 }
 
-/** @param {JobRow} row @param {any} name what stands in its first cell */
-function lineOf(row, name) {
+/** The longest response that is possible; nothing where it isn't known. @param {ReturnType<typeof boundsOf>} bounds @param {number} at */
+function longestOf(bounds, at) {
+  const longest = bounds?.longest.get(at);
+  return longest === undefined ? "–" : longest === Infinity ? "no limit" : took(longest, 99);
+}
+
+/** @param {JobRow} row @param {any} name what stands in its first cell @param {string} longest */
+function lineOf(row, name, longest) {
   const { priority, cost, period, deadline, ended, least, mean, most, share, missed, missedRow } = row;
   const part = utilization(row);
   const told = `${counted(row.began, "job")} began, ${ended} ended, ${row.lost} were lost with a restart, ${row.alive} live`;
   const costs = cost === null ? "–" : typeof cost === "number" ? short(cost) : `${short(cost.from)} to ${short(cost.to)}`;
   const late = deadline === null ? "–" : missed === 0 ? "0"
     : button(String(missed), () => act("late", missedRow), { title: "To the first one that is late" });
-  return make("tr", { title: told }, make("td", {}, ...name), ...[late, String(priority), period === null ? "–" : short(period), costs, deadline === null ? "–" : short(deadline),
-    part === null ? "–" : percent(part), percent(share), ...(ended === 0 ? ["–", "–", "–"] : [took(least), took(mean), took(most, 99)])].map((it) => make("td", {}, it)));
+  return make("tr", { title: told }, make("td", {}, ...name), ...[late, octal(priority, 2), period === null ? "–" : short(period), costs, deadline === null ? "–" : short(deadline),
+    part === null ? "–" : percent(part), percent(share), ...(ended === 0 ? ["–", "–", "–"] : [took(least), took(mean), took(most, 99)]), longest].map((it) => make("td", {}, it)));
 }
 
 /** What the table's lines and its head say, up to the row that is shown; at the beginning, of all of the run. @param {Pick<State, "run" | "count" | "at">} now */
@@ -35,7 +45,8 @@ function tableOf({ run, count: all, at }) {
   const names = namesOf(run);
   const parts = rows.map((row) => ({ row, name: names.job(row.at) ?? octal(row.at, 5), part: utilization(row) ?? 0 }));
   const stolen = (budgetOf(run, count, { from: 0, to: run.ticksAt(count) })?.stolen ?? 0) / 100;
-  return { parts, stolen, all: parts.reduce((sum, it) => sum + it.part, stolen), time: at > 0 ? `up to ${seconds(run.ticksAt(count))}` : `in ${run.bench.seconds} s` };
+  return { parts, stolen, all: parts.reduce((sum, it) => sum + it.part, stolen), time: at > 0 ? `up to ${seconds(run.ticksAt(count))}` : `in ${run.bench.seconds} s`,
+    bounds: boundsOf(run.bench) };
 }
 
 /** Which part of the time all jobs of a run ask for, with what is stolen, in percent. @param {import("./run.js").Run} run */
@@ -43,11 +54,12 @@ export const loadOf = (run) => Math.round(100 * tableOf({ run, count: run.count,
 
 /** The table's lines. @param {State} now */
 export function linesOf(now) {
-  const { parts, stolen, all } = tableOf(now);
+  const { parts, stolen, all, bounds } = tableOf(now);
   const colours = coloursOf(now.run);
+  const safe = bounds === null || now.run.bench.job.every((it) => it.deadline === undefined) ? "" : `${percent(bounds.safe)} is always safe`;
   return [
-    ...parts.map(({ row, name }) => lineOf(row, [make("span", { class: `swatch j${1 + colours.of(row.at)}` }), name])),
-    make("tr", {}, make("td", { colSpan: 6 }, stolen > 0 ? `and stolen ${percent(stolen)}` : "all"), make("td", {}, percent(all)), make("td", { colSpan: 4 })),
+    ...parts.map(({ row, name }) => lineOf(row, [make("span", { class: `swatch j${1 + colours.of(row.at)}` }), name], longestOf(bounds, row.at))),
+    make("tr", {}, make("td", { colSpan: 6 }, stolen > 0 ? `and stolen ${percent(stolen)}` : "all"), make("td", {}, percent(all)), make("td", { colSpan: 5, title: SAFE }, safe)),
   ];
 }
 
@@ -63,14 +75,15 @@ export function jobs(now, before) {
     if (run !== before.run) fill("jobs-sum", ["Jobs …"]);
     return;
   }
-  const { parts, stolen, all, time } = tableOf(now);
+  const { parts, stolen, all, time, bounds } = tableOf(now);
   assign(box, { hidden: (parts.length === 0 && (at === 0 || box.hidden)) || isHidden(now) });
   if (box.hidden) return;
   const missed = parts.reduce((sum, it) => sum + it.row.missed, 0);
   const told = [...parts.filter((it) => it.part > 0).map(({ name, part }) => `${name} ${percent(part)}`), ...(stolen > 0 ? [`stolen ${percent(stolen)}`] : [])];
-  fill("jobs-sum", [`Jobs ${time}: ${told.join(" + ")}${told.length > 1 ? ` = ${percent(all)}` : ""}`,
-    ...(missed > 0 ? ["; ", make("span", { class: "late" }, `${counted(missed, "deadline")} missed`)] : [])]);
+  fill("jobs-sum", [`Jobs, in all: ${told.join(" + ")}${told.length > 1 ? ` = ${percent(all)}` : ""}`,
+    ...(missed > 0 ? ["; ", make("span", { class: "late" }, `${counted(missed, "deadline")} missed ${time}`)] : [])]);
+  set(by("jobs-order"), missed > 0 && bounds?.hasOrder === false ? NO_ORDER : "");
   fill("jobs", linesOf(now));
   // (jobs that haven't begun yet have their room)
-  if (at === 0) box.lastElementChild.style.minHeight = `${by("jobs").parentElement.offsetHeight}px`;
+  if (at === 0) by("jobs").closest(".wide").style.minHeight = `${by("jobs").parentElement.offsetHeight}px`;
 }

@@ -1,13 +1,11 @@
 /**
- * What is shown is kept in the address, a moment after nothing more happens, and undo and branches where
- * the browser has storage; what an address says is opened.
+ * What is shown is kept in the address, a moment after nothing more happens; what an address says is opened.
  *
  * @typedef {import("./state.js").State} State
  */
 import { seenAtFirst } from "./actions.js";
 import * as address from "./address.js";
-import { requestsOf } from "./bench.js";
-import { begunOf, fillOn, passTime, runOf } from "./clock.js";
+import { begunOf, fillOn, passTime } from "./clock.js";
 import { by } from "./dom.js";
 import { unpacked } from "./files.js";
 import { act, differ, isHidden, scaleOf, set, state } from "./state.js";
@@ -32,7 +30,7 @@ function inTurn(what) {
 
 /** @param {State} now @param {State} before */
 export function keeping(now, before) {
-  if (!differ(now, before, "run", "count", "at", "seen", "hidden", "history", "isEmbedded") || document.documentElement.dataset.ready !== "yes") return;
+  if (!differ(now, before, "run", "count", "at", "seen", "hidden", "isEmbedded") || document.documentElement.dataset.ready !== "yes") return;
   keepSoon();
 }
 
@@ -73,17 +71,12 @@ async function keepNow() {
   const { first, mark } = await shownMark(now);
   if (mark === kept.mark || (mark === "#" && kept.mark === "")) return;
   try {
-    const place = { id: `${Date.now()} ${Math.random()}` };
-    if (first === kept.documentMark || kept.mark === "") history.replaceState(place, "", mark);
-    else history.pushState(place, "", mark);
+    if (first === kept.documentMark || kept.mark === "") history.replaceState(null, "", mark);
+    else history.pushState(null, "", mark);
   } catch {
     // (an address that is too long, or too many of them: the old one stays)
   }
   Object.assign(kept, { mark: location.hash, documentMark: first });
-  const { done, undone, branches, named } = state().history;
-  const marksOf = (/** @type {any[]} */ views) => Promise.all(views.slice(-address.MOST_STORED).map(async (it) =>
-    ({ mark: await markOf(it), at: it.at, name: it.name })));
-  address.store({ id: history.state?.id, done: await marksOf(done), undone: await marksOf(undone), branches: await marksOf(branches), named });
 }
 
 /** Opens what the address says. */
@@ -126,7 +119,7 @@ async function openAddress({ name, bench }) {
 /** A run on which is done again what was done. @param {string} done */
 async function runAgain(done, { title, about, source, given } = state().run) {
   const recipe = await address.readRecipe(done, given);
-  const run = begunOf({ ...given, ...recipe.plan }, { title, about, source, given });
+  const run = begunOf({ ...given, ...recipe.given }, { title, about, source, given });
   return { run, follow: () => address.follow(run, recipe, passTime, others) };
 }
 
@@ -156,38 +149,6 @@ async function bringBack(was, plain) {
   const { run: before, follow } = was === address.AS_IT_WAS ? { run: plain, follow: async () => fillOn(plain, Infinity) } : await runAgain(was, plain);
   await follow();
   if (state().run === run) set({ before: { run: before, count: before.count } });
-}
-
-/** Undo and branches as they were, one after the other, beside what the reader does. */
-export async function restore() {
-  const found = address.stored(history.state);
-  if (found === null) return;
-  const viewsOf = async (/** @type {any[]} */ rows) => {
-    const views = [];
-    for (const { mark, at, name } of rows) {
-      await others();
-      const view = await viewOf(mark).catch(() => null);
-      if (view !== null) views.push({ ...view, at: Math.min(at, view.count), name });
-    }
-    return views;
-  };
-  const [done, undone, branches] = [await viewsOf(found.done), await viewsOf(found.undone), await viewsOf(found.branches)];
-  if (state().history.done.length === 0) set({ history: { done, undone, branches, named: found.named } });
-}
-
-/** The run of a document's part of an address, if it is of the document that is open. @param {string} mark */
-async function viewOf(mark) {
-  const { name, bench, done } = address.readAddress(`#${mark}`);
-  const mine = address.readAddress(`#${kept.documentMark}`);
-  if (name !== mine.name || bench !== mine.bench) return null;
-  if (done === "") {
-    const { given, title, about, source } = state().run;
-    const run = runOf(given, requestsOf(given), { title, about, source, isOpened: true }, Infinity);
-    return { run, count: run.count };
-  }
-  const { run, follow } = await runAgain(done);
-  await follow();
-  return { run, count: run.count };
 }
 
 /** The page is ready: from now on the address is kept. @param {boolean} isAsked whether the address said something */

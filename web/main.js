@@ -3,26 +3,24 @@ import { start } from "../libagc/js/machine.js";
 import { build } from "./build.js";
 import { drawCards } from "./cards.js";
 import { ACTIONS, firstState, settled } from "./actions.js";
-import { besideText, account, isTourSeen, question, tour } from "./story.js";
+import { account, isTourSeen, question, tour } from "./story.js";
 import { fillOn } from "./clock.js";
 import { dialogs, hearDialog } from "./dialogs.js";
-import { assign, button, by, fill, make } from "./dom.js";
+import { by } from "./dom.js";
 import { editor, hearEditor } from "./editor.js";
 import * as files from "./files.js";
 import { asked, makeCommon } from "./forms.js";
 import { fillSpeeds, head, speedNow } from "./head.js";
 import { jobs } from "./job-table.js";
-import { parting } from "./history.js";
-import { fromAddress, hearAddress, keepFrom, keeping, restore } from "./keep.js";
+import { fromAddress, hearAddress, keepFrom, keeping } from "./keep.js";
 import { list, makeList } from "./list.js";
 import { print } from "./paper.js";
 import { whatIf } from "./sliders.js";
 import { chart, hearChart } from "./stage.js";
-import { act, begin, differ, drawAgain, isAction, isHidden, sceneAfter, set, state } from "./state.js";
+import { act, begin, drawAgain, isAction, sceneAfter, set, state } from "./state.js";
 import { drawWords, makeBoxes, tables } from "./tables.js";
 import { hearTouch, touch } from "./touch.js";
 import { Prompt, completions } from "./typing.js";
-import { counted } from "./words.js";
 
 /** @typedef {import("./state.js").State} State */
 
@@ -88,17 +86,17 @@ function frame(time) {
   requestAnimationFrame(frame);
 }
 
-/** A run that has more to come is filled between the frames, and so is one beside. @param {State} now @param {State} before */
-function filling({ run, beside, before: older }, before) {
-  for (const it of new Set([run, beside?.run, older?.run])) {
-    if (it?.isFilling && ![before.run, before.beside?.run, before.before?.run].includes(it)) setTimeout(fillSome, 0, it, 0);
+/** A run that has more to come is filled between the frames, and so is the one before. @param {State} now @param {State} before */
+function filling({ run, before: older }, before) {
+  for (const it of new Set([run, older?.run])) {
+    if (it?.isFilling && ![before.run, before.before?.run].includes(it)) setTimeout(fillSome, 0, it, 0);
   }
 }
 
 /** @param {import("./run.js").Run} run @param {number} told when that was told last */
 function fillSome(run, told) {
-  const { run: now, beside, before, tour: { tried } } = state();
-  if (!run.isFilling || ![now, beside?.run, before?.run, ...tried.map((it) => it.run)].includes(run)) return;
+  const { run: now, before, tour: { tried } } = state();
+  if (!run.isFilling || ![now, before?.run, ...tried.map((it) => it.run)].includes(run)) return;
   fillOn(run);
   const isDue = !run.isFilling || performance.now() - told > 200;
   if (isDue) act("filled", run);
@@ -124,18 +122,7 @@ function calm(view, each = CALM) {
 /** What the row is, in words, and its tables. @param {State} now @param {State} before */
 function texts(now, before) {
   head(now, before);
-  tables(now, before, besideText);
-}
-
-/** The branches, by name. @param {State} now @param {State} before */
-function branches(now, before) {
-  if (!differ(now, before, "history", "run", "count", "hidden")) return;
-  const all = now.history.branches;
-  assign(by("branches-box"), { hidden: all.length === 0 || isHidden(now) });
-  if (all.length === 0 && by("branches").childElementCount === 0) return;
-  fill("branches", all.map((it, k) => make("li", {},
-    `${it.name}: ${counted(it.count, "request")}, ${counted(it.run.alarms.filter((row) => row <= it.count).length, "alarm")}; differs from request ${parting(now, it)} on. `,
-    button("Show it", () => act("branch", k)), " ", button("Compare", () => act("compare", it)))));
+  tables(now, before);
 }
 
 /** A button does what it is called. */
@@ -146,7 +133,6 @@ function hear() {
   });
   document.addEventListener("keydown", key);
   by("speed").addEventListener("change", () => act("speed", by("speed").value));
-  by("here").addEventListener("change", () => act("here", by("here").checked));
   by("words-box").addEventListener("toggle", () => drawWords(state()));
   window.addEventListener("resize", () => drawAgain());
   window.addEventListener("beforeprint", () => {
@@ -185,7 +171,7 @@ async function open() {
   makeCommon();
   fillSpeeds();
   begin(firstState({ kept: files.keptTexts(by("kept").textContent.trim()), own }), { actions: ACTIONS, settled,
-    views: [calm(texts, READ), build, question, tour, calm(account), chart, touch, calm(jobs), calm(list), whatIf, asked, branches, editor, dialogs, keeping,
+    views: [calm(texts, READ), build, question, tour, calm(account), chart, touch, calm(jobs), calm(list), whatIf, asked, editor, dialogs, keeping,
       filling, clock] });
   hear();
   // (a link to an example isn't a link to the button of that name)
@@ -202,7 +188,6 @@ async function open() {
   // (what the page opened with can't be undone)
   set({ history: { ...state().history, done: [] } });
   document.documentElement.dataset.ready = "yes";
-  await restore();
   setTimeout(drawCards, 500, state().kept.filter((it) => it.kind === "example"));
 }
 

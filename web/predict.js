@@ -1,6 +1,6 @@
 /**
- * What a reader expects of an exercise: its own fields. A first wrong try gets a hint; with the second one the machine's
- * answers are shown, and where they are seen. Fields that are left empty stay, so that it can be answered part by part.
+ * What a reader expects of an exercise: its own fields. Each is right or not yet, with a hint; the machine's answers, and where
+ * they are seen, come when all are right or asked for. Fields may be left empty, so that it can be answered part by part.
  */
 import { button, make } from "./dom.js";
 import { EXERCISES, plainly, whole } from "./fields.js";
@@ -37,7 +37,7 @@ export function judged(now, given) {
   });
 }
 
-/** What is said of a first try, if anything. @param {State} now @param {{ label: string, isRight: boolean }[]} all */
+/** What is said of a try, if anything. @param {State} now @param {{ label: string, isRight: boolean }[]} all */
 function hintOf(now, all) {
   const wrong = all.filter((it) => !it.isRight);
   if (all.length === 0) return [];

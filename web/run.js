@@ -58,8 +58,8 @@ const REFUSED = { [Code.OK]: 0, [Code.SPENT]: SPENT, [Code.LOG_FULL]: LOG_FULL }
 /** @type {Source} */
 export const NO_SOURCE = Object.freeze({ document: "", exercise: "", question: "", isChanged: false });
 
-/** What of a bench may be changed as its clock runs, and what only before that. @type {Record<"clock" | "plan", (keyof import("./bench.js").Bench)[]>} */
-export const CHANGING = { clock: ["steal", "seed", "job", "event"], plan: ["sets", "task", "phase"] };
+/** What of a bench a slider may change. @type {(keyof import("./bench.js").Bench)[]} */
+export const CHANGING = ["steal", "seed", "job", "event", "sets", "task", "phase"];
 
 /** Whether two values of a bench are spelled alike. @param {any} one @param {any} other */
 export const isAlike = (one, other) => JSON.stringify(one) === JSON.stringify(other);
@@ -224,8 +224,6 @@ export class Run {
     this.isOpened = false;
     /** Whether its clock has more to ask for, which comes in the background. */
     this.isFilling = false;
-    /** The requests that are still to be asked, where it repeats those of another run. */
-    this.pending = /** @type {Generator<[string, string]> | null} */ (null);
     /** @type {string[]} */
     this.lines = [""];
     /** Who asked, by number. */
@@ -239,9 +237,6 @@ export class Run {
     this.alarms = [];
     /** The rows that weren't served. @type {number[]} */
     this.refused = [];
-    /** After which rows the clock was given another timetable, and the bench before that. */
-    /** @type {{ row: number, given: any, before: import("./bench.js").Bench }[]} */
-    this.changes = [];
     const plan = { task: bench.task, phase: bench.phase };
     this.head = new Witness(new Machine({ sets: this.sets, plan, power: bench.power }));
     this.lanes = new Lanes(this.sets);
@@ -363,7 +358,6 @@ export class Run {
     const k = Math.floor(row / APART);
     const state = this.checkpoints[k].copy();
     if (!goesOn) state.clock = null;
-    this.changeAt(state, k * APART);
     this.replay(state, k * APART + 1, row);
     return state;
   }
@@ -375,23 +369,7 @@ export class Run {
       if (state.clock !== null && this.isByClock(at)) state.clock.next(state.machine);
       const step = state.ask(this.lines[at], at);
       state.clock?.served(state.machine, step);
-      this.changeAt(state, at);
     }
-  }
-
-  /** Gives a state's clock the timetable that it was given after a row. @param {Witness} state @param {number} row */
-  changeAt(state, row) {
-    if (state.clock === null) return;
-    for (const it of this.changes) if (it.row === row) state.clock.change(it.given);
-  }
-
-  /** Gives the clock another timetable, from the last row on. @param {any} bench what that makes of the bench @param {any} given */
-  change(bench, given) {
-    this.changes.push({ row: this.count, given, before: this.bench });
-    this.bench = { ...this.bench, ...bench };
-    this.costs = costsOf(this.bench);
-    this.head.clock.change(given);
-    this.noteWork(this.count);
   }
 
   /** Whether a row was asked by the clock, or by one of its events. @param {number} row */
@@ -409,15 +387,12 @@ export class Run {
     made.columns = Object.fromEntries(
       Object.entries(this.columns).map(([name, it]) => [name, it.front(row + 1)]),
     );
-    made.bench = this.changes.find((it) => it.row > row)?.before ?? this.bench;
-    made.costs = costsOf(made.bench);
-    made.changes = this.changes.filter((it) => it.row <= row);
     made.alarms = this.alarms.filter((it) => it <= row);
     made.refused = this.refused.filter((it) => it <= row);
     made.head = this.stateAt(row, true);
     made.lanes = this.lanes.front(row);
     made.head.lanes = made.lanes;
-    Object.assign(made, { isFilling: false, pending: null });
+    made.isFilling = false;
     made.checkpoints = this.checkpoints.slice(0, Math.floor(row / APART) + 1);
     return /** @type {Run} */ (made);
   }
@@ -444,9 +419,9 @@ export class Run {
     return new Map(this.who.map((it, k) => [it, found[k]]));
   }
 
-  /** Whether the first rows aren't what the document asks for: something was asked by hand, or the clock was given other numbers. @param {number} count */
+  /** Whether the first rows aren't what the document asks for: something was asked by hand, or its numbers are others. @param {number} count */
   isChanged(count) {
-    return this.handRows(count) > 0 || Object.values(CHANGING).flat().some((it) => !isAlike(this.bench[it], this.given[it]));
+    return this.handRows(count) > 0 || CHANGING.some((it) => !isAlike(this.bench[it], this.given[it]));
   }
 
   /** How many of the first rows were asked by hand. @param {number} count */

@@ -13,7 +13,7 @@ export async function openedMark(now) {
   const { run, count, kept } = now;
   const { source } = run;
   const isTimed = run.bench.seconds !== undefined;
-  const isMore = run.changes.length > 0 || count < run.count
+  const isMore = count < run.count
     || run.who.some((it) => it.startsWith("you") || (!isTimed && it === "the clock"));
   const isOpened = run.isOpened && source.document !== "" && !isMore;
   const found = isOpened && !source.isChanged && kept.find((it) => it.text === source.document || it.name === source.exercise);

@@ -1,9 +1,8 @@
 /**
- * The numbers of the document as sliders: stolen time, what jobs cost, periods, priorities, core sets. A slider
+ * The numbers of the document as sliders: stolen time, what jobs cost, periods, priorities, deadlines, core sets. A slider
  * that is moved asks for its change at once, step by step. And how a run differs from its document,
  * in one line, with since when.
  */
-import { isWhole } from "./actions.js";
 import { outcomeOf } from "./drawing-words.js";
 import { AGAIN, missedIn, priorityOf, withPriority } from "./jobs.js";
 import { assign, attribute, by, fill, make, set } from "./dom.js";
@@ -29,7 +28,8 @@ const WHAT = {
   cost: "How much computing time each such job needs before it ends",
   seed: "With which number lots begin, by which jobs cost more or less",
   period: "After how long it comes again",
-  priority: "How urgent it is, 1 to 31: of the jobs that are awake the one of the greatest priority runs. The document has it in octal",
+  priority: "How urgent it is, 01 to 37 (octal, as the computer has it): of the jobs that are awake the one of the greatest priority runs",
+  deadline: "How long it may take from when it is asked for: it changes no run, and says only which jobs are late",
   sets: "How many jobs can be alive at once",
 };
 
@@ -58,9 +58,15 @@ const shownOf = ({ bench, given }) => bench.job.slice(0, MOST_COSTS).filter((_, 
 function prioritiesOf(bench, jobs) {
   return jobs.flatMap(({ at, name }) => {
     const value = priorityOf(bench, at);
-    return value === null ? [] : [{ name: `${visible(name ?? at)} priority`, own: at, value, min: 1, max: 31, unit: "", what: WHAT.priority,
+    return value === null ? [] : [{ name: `${visible(name ?? at)} priority`, own: at, value, min: 1, max: 31, unit: "octal", what: WHAT.priority,
       given: (/** @type {number} */ priority) => withPriority(bench, at, priority) }];
   });
+}
+
+/** How long each job may take that has a deadline. @param {import("./bench.js").Bench} bench @param {import("./bench.js").JobRow[]} jobs @returns {SliderNumber[]} */
+function deadlinesOf({ job }, jobs) {
+  return jobs.flatMap((it) => (it.deadline === undefined ? [] : [timed({ name: `${visible(it.name ?? it.at)} deadline`, own: it.at, value: it.deadline, what: WHAT.deadline,
+    given: (deadline) => ({ job: job.map((one) => (one === it ? { ...it, deadline } : one)) }) })]));
 }
 
 /** Numbers of one name by more than their names: by whose they are, or if that is said twice, too, by their places. @param {SliderNumber[]} numbers */
@@ -98,10 +104,10 @@ export function numbersOf(run) {
     what: WHAT.cost, given: (cost) => ({ job: job.map((one) => (one === it ? { ...it, cost } : one)) }) })]));
   const lots = seed === undefined || job.every(({ cost }) => typeof cost === "number") ? [] : [{ name: "Seed", own: "lots", value: seed, min: 1,
     max: Math.max(100, seed), unit: "", what: WHAT.seed, given: (/** @type {number} */ value) => ({ seed: value }) }];
-  if (bench.seconds === undefined) return toldApart([stolen, ...costs]);
+  if (bench.seconds === undefined) return [];
   const sets = { name: "Core sets", own: "7 or 8", value: bench.sets ?? 7, min: 7, max: 8, unit: "", what: WHAT.sets,
     given: (/** @type {number} */ value) => ({ sets: value }) };
-  return toldApart([stolen, ...costs, ...lots, ...periodsOf(bench), sets, ...prioritiesOf(bench, shownOf(run))]);
+  return toldApart([stolen, ...costs, ...lots, ...periodsOf(bench), sets, ...prioritiesOf(bench, shownOf(run)), ...deadlinesOf(bench, shownOf(run))]);
 }
 
 /** The sliders that are there, by name: its box, field, output, button, and number. @type {Map<string, { box: any, field: any, output: any, button: any, number: SliderNumber }>} */
@@ -177,7 +183,7 @@ function ask(name) {
   held.due = 0;
   const row = rows.get(name);
   const value = Number(row?.field.value);
-  if (row !== undefined && value !== row.number.value) act("change", row.number.given(value), undefined, name);
+  if (row !== undefined && value !== row.number.value) act("change", row.number.given(value), name);
 }
 
 /** What came of a run, in a line, with the deadlines that were missed where a job has one. @param {Run} run @param {number} count */
@@ -189,15 +195,19 @@ function cameOf(run, count) {
 
 /** The sliders of a run, what came of it beside what was, and how it differs from its document. @param {State} now @param {State} before */
 export function whatIf(now, before) {
-  const { run, count, at, before: older } = now;
+  const { run, count, before: older } = now;
+  // (a bench has no time of its own)
+  assign(by("clock"), { hidden: run.bench.seconds === undefined });
   if (differ(now, before, "run")) {
     const numbers = numbersOf(run);
     const isSame = numbers.length === rows.size && numbers.every((it) => rows.has(it.name));
     if (!isSame) {
       rows.clear();
-      const [others, priorities] = [false, true].map((is) => numbers.filter((it) => (it.what === WHAT.priority) === is).map(rowOf));
-      const isOpen = run.bench.job.some((it) => it.deadline !== undefined);
-      fill("sliders", [...others, ...(priorities.length === 0 ? [] : [make("details", { open: isOpen }, make("summary", {}, "Priorities"), ...priorities)])]);
+      const [priorities, deadlines] = [WHAT.priority, WHAT.deadline].map((what) => numbers.filter((it) => it.what === what));
+      const others = numbers.filter((it) => !priorities.includes(it) && !deadlines.includes(it));
+      const folded = /** @type {[string, SliderNumber[], boolean][]} */ ([["Priorities", priorities, deadlines.length > 0], ["Deadlines", deadlines, false]]);
+      fill("sliders", [...others.map(rowOf), ...folded.flatMap(([name, all, open]) =>
+        (all.length === 0 ? [] : [make("details", { open }, make("summary", {}, name), ...all.map(rowOf))]))]);
     }
     numbers.forEach(draw);
     set(by("differs"), differencesOf(run));
@@ -208,12 +218,6 @@ export function whatIf(now, before) {
       : [`Before: ${cameOf(older.run, older.count)}`, `Now: ${cameOf(run, count)}`];
     if (by("outcome").textContent !== told.join(" ")) fill("outcome", told.flatMap((it, k) => [k === 0 ? "" : " ", make("span", {}, it)]));
   }
-  if (!differ(now, before, "run", "at", "clock")) return;
-  const isFromHere = !isWhole(now) && at > 0;
-  const from = !isFromHere ? "the beginning" : run.ticksAt(at) > 0 ? seconds(run.ticksAt(at)) : `request ${at}`;
-  set(by("since"), `Sliders act from ${from} on.`);
-  assign(by("since-box"), { className: isFromHere || now.clock.isHere ? "since later" : "since" });
-  assign(by("here-box"), { hidden: run.bench.seconds === undefined || at === 0 });
 }
 
 /** The history of a number: `0 until 30.50 s, then 15`. @param {{ from: number, value: string }[]} rows */
@@ -239,16 +243,6 @@ function stealText(steal) {
   return [...new Set(told), historyOf(rows)].join(", else ");
 }
 
-/** What a run has of its bench over time: as it began, and as it was changed. @param {Run} run @param {(bench: import("./bench.js").Bench) => string} told */
-function overTime(run, told) {
-  const { changes } = run;
-  const rows = changes.map((it, k) => ({ from: k === 0 ? 0 : run.ticksAt(changes[k - 1].row), value: told(it.before) }));
-  const last = changes.at(-1);
-  const all = [...rows, { from: last === undefined ? 0 : run.ticksAt(last.row), value: told(run.bench) }];
-  // (of several changes at one time only the last holds)
-  return historyOf(all.filter((it, k) => k + 1 === all.length || all[k + 1].from > it.from));
-}
-
 /** @param {import("./bench.js").JobRow["cost"]} cost */
 function costText(cost) {
   return typeof cost === "object" ? `${seconds(cost.from)} to ${seconds(cost.to)}` : seconds(cost);
@@ -263,12 +257,12 @@ export function differencesOf(run) {
     if (here !== there) found.push(`${name} ${here}${unit} (document: ${there}${unit})`);
   };
   add("steal", stealText(bench.steal), stealText(given.steal), " %");
-  given.job.forEach((it, k) =>
-    add(`${visible(it.name ?? it.at)} costs`, overTime(run, (one) => costText(one.job[k]?.cost ?? 0)), costText(it.cost)));
-  add("seed", overTime(run, (one) => String(one.seed)), String(given.seed));
+  given.job.forEach((it, k) => add(`${visible(it.name ?? it.at)} costs`, costText(bench.job[k].cost), costText(it.cost)));
+  add("seed", String(bench.seed), String(given.seed));
   add("core sets", String(bench.sets ?? 7), String(given.sets ?? 7));
-  const documents = [...periodsOf(given), ...prioritiesOf(given, given.job)];
-  for (const it of [...periodsOf(bench), ...prioritiesOf(bench, bench.job)]) {
+  const moved = (/** @type {import("./bench.js").Bench} */ of) => [...periodsOf(of), ...prioritiesOf(of, of.job), ...deadlinesOf(of, of.job)];
+  const documents = moved(given);
+  for (const it of moved(bench)) {
     const its = documents.find(({ name, own }) => name === it.name && own === it.own);
     if (its !== undefined) add(it.name, valueText(it, it.value), valueText(it, its.value));
   }

@@ -1,7 +1,7 @@
 /**
  * The chart on the page: it is painted where another run, part or size is shown; the row that is shown is
  * a line over it. What is pointed at is told beside the pointer; a click goes there and shows what asked
- * for it; Ctrl and the wheel, two fingers, keys and a drawn range zoom; edges of the budget are dragged.
+ * for it; Ctrl and the wheel, two fingers, keys and a drawn range zoom.
  */
 import { addMarks, paint } from "./drawing-pens.js";
 import { hitAt, summaryOf } from "./drawing-words.js";
@@ -19,8 +19,8 @@ const [LEAST_DRAWN, PAPER_WIDE, PAINTED_EACH, MOST_TOLD] = [6, 980, 300, 8];
 /** What was painted last: nothing is heard of the chart before that; and what is to be written once the clock is there. */
 const drawn = { sheet: /** @type {Sheet} */ (/** @type {unknown} */ (null)), time: 0, alarms: 0, late: /** @type {import("./drawing.js").Mark[]} */ ([]) };
 
-/** The pointers that are down, by number; whether a range was drawn; the edge that is held. */
-const hand = { pointers: new Map(), isDrawn: false, edge: /** @type {any} */ (null), due: 0 };
+/** The pointers that are down, by number; and whether a range was drawn. */
+const hand = { pointers: new Map(), isDrawn: false };
 
 export function themeNow() {
   if (matchMedia("(forced-colors: active)").matches) return "forced";
@@ -38,13 +38,15 @@ const rowsOf = (now) => (isHidden(now) ? now.at : now.count);
 
 /** How large lanes and text are, as the page's text is, and what is drawn. @param {State} now */
 function sizes(now) {
-  const { run, tour, isProjected } = now;
+  const { run, tour, isProjected, before } = now;
   const isToured = tour.step > 0;
-  if (window.innerWidth <= 640) return { high: 19, text: 12, strips: ["areas"], parts: isHidden(now) ? ASKED : isToured ? TOURED : [...PARTS, "notes"] };
+  if (window.innerWidth <= 640) return { high: 19, text: 12, strips: ["areas"], parts: isHidden(now) ? ASKED : isToured ? TOURED : [...PARTS.filter((it) => it !== "before"), "notes"] };
   const size = parseFloat(getComputedStyle(document.documentElement).fontSize);
   // (where little else is below it, it fills the window; and elsewhere it stands above the foot of a low one)
-  const [least, most, beside] = !(isToured || isProjected) || window.innerWidth < 54 * size ? [1.5, 1.87, PAGE_BESIDE] : [1.6, 3, isToured ? TOUR_BESIDE : PROJECTOR_BESIDE];
-  const lanes = Math.max(least, Math.min(most, (window.innerHeight / size - beside) / (run.sets + 3.6)));
+  const [least, most, beside] = !(isToured || isProjected) || window.innerWidth < 54 * size ? [1.5, 2.5, PAGE_BESIDE] : [1.6, 3, isToured ? TOUR_BESIDE : PROJECTOR_BESIDE];
+  // (with the run before it is as high as without)
+  const [line, half] = before === null || isToured || isProjected ? [0, 0] : [1.4, before.run.sets / 2];
+  const lanes = Math.max(least, Math.min(most, (window.innerHeight / size - beside - line) / (run.sets + 3.6 + half)));
   const parts = isHidden(now) ? ASKED : [...(isToured ? TOURED : isProjected ? ["events", ...TOURED] : [...PARTS, "notes"]), "legend"];
   return { high: Math.round(lanes * size), text: Math.round(0.8 * size), parts };
 }
@@ -147,7 +149,7 @@ function tell(event) {
   const block = by("block");
   assign(block, { hidden: hit === null || hit.text === "" });
   set(block, hit?.text ?? "");
-  by("lanes-chart").style.cursor = hit?.kind === "edge" ? "ew-resize" : hit?.kind === "open" ? "pointer" : "crosshair";
+  by("lanes-chart").style.cursor = hit?.kind === "open" ? "pointer" : "crosshair";
   const wide = block.hidden ? 0 : by("lanes-box").clientWidth - block.offsetWidth - 2;
   Object.assign(block.style, { left: `${Math.max(0, Math.min(x + 14, wide))}px`, top: `${y + 18}px` });
   return hit;
@@ -164,23 +166,10 @@ function click(event) {
   if (row !== undefined && kind !== "open") act("go", row);
 }
 
-/** Drags an edge of the budget, as its slider is moved. @param {number} x */
-function dragEdge(x) {
-  const { edge, name, from } = hand.edge;
-  const value = Math.max(edge.min, Math.min(edge.max, edge.value + Math.round((x - from) * edge.perPoint)));
-  if (hand.due !== 0) return;
-  hand.due = requestAnimationFrame(() => {
-    hand.due = 0;
-    act("change", edge.given(value), undefined, `the edge of ${name}`);
-    set(by("block"), drawn.sheet.bands.find((it) => it.kind === "edge" && it.name === name)?.text ?? "");
-  });
-}
-
 /** @param {PointerEvent} event */
 function down(event) {
-  const [x, y] = pointOf(event);
-  const hit = hitAt(drawn.sheet, x, y);
-  Object.assign(hand, { isDrawn: false, edge: hit?.kind === "edge" ? { ...hit, from: x } : null });
+  const [x] = pointOf(event);
+  hand.isDrawn = false;
   hand.pointers.set(event.pointerId, { x, now: x });
   if (event.pointerType === "mouse") by("lanes-chart").setPointerCapture(event.pointerId);
 }
@@ -197,9 +186,8 @@ function moved(event) {
   [held.now] = pointOf(event);
   const isFar = Math.abs(held.now - x) >= LEAST_DRAWN;
   const isPinched = hand.pointers.size === 2;
-  hand.isDrawn = isFar || isPinched || hand.edge !== null || (hand.isDrawn && !isMouse);
-  if (hand.edge !== null) dragEdge(held.now);
-  else if (isPinched) {
+  hand.isDrawn = isFar || isPinched || (hand.isDrawn && !isMouse);
+  if (isPinched) {
     const other = [...hand.pointers.values()].find((it) => it !== held);
     const [was, is] = [Math.abs(before - other.now), Math.abs(held.now - other.now)];
     if (was > 8 && is > 8) act("zoom", was / is, drawn.sheet.partAt((held.now + other.now) / 2));
@@ -213,7 +201,6 @@ function moved(event) {
 function up(event) {
   const held = hand.pointers.get(event.pointerId);
   hand.pointers.delete(event.pointerId);
-  hand.edge = null;
   if (by("range").hidden || held === undefined) return;
   by("range").hidden = true;
   const [low, high] = [held.x, held.now].sort((a, b) => a - b).map((x) => drawn.sheet.placeAt(x));

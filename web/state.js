@@ -5,24 +5,23 @@
  * @typedef {{
  *   run: import("./run.js").Run, count: number, at: number, isAfter: boolean,
  *   seen: { from: number, to: number } | null,
- *   clock: { isRunning: boolean, speed: number | null, isHere: boolean },
+ *   clock: { isRunning: boolean, speed: number | null },
  *   dialog: { name: string, given?: any, fault?: string } | null,
  *   touched: { list: string, k: number } | null,
  *   opened: string[], swept: string[], selection: import("./drawing.js").Selection | null,
- *   built: { jobs: import("./build.js").Built[], document: string } | null,
+ *   built: string | null,
  *   isEditing: boolean, isProjected: boolean, isEmbedded: boolean,
  *   before: { run: import("./run.js").Run, count: number } | null,
- *   beside: { run: import("./run.js").Run, name: string } | null,
- *   hidden: import("./run.js").Source[], predicted: string[], tries: number,
+ *   hidden: import("./run.js").Source[], predicted: string[],
  *   history: import("./history.js").History,
- *   moved: { slider: string, run: any, at: number, isWhole: boolean },
+ *   moved: { slider: string, run: any, at: number },
  *   edited: import("./run.js").Run | null,
  *   note: { run: any, at: number, text: string }, said: { run: any, at: number, text: string },
  *   tour: { step: number, tried: { name: string, run: import("./run.js").Run }[] },
  *   kept: { kind: string, name: string, text: string }[], own: string,
  * }} State
  * `at` is the row that is shown, and `isAfter` says that its tables are those after its restart.
- * `seen` is the part of the run on the chart: all of it where it is null. `hidden` are the
+ * `seen` is the part of the run on the chart: all of it where it is null. `built` is the document of the form of New. `hidden` are the
  * exercises whose answers aren't shown yet.
  */
 import { Names } from "./account.js";

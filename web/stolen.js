@@ -52,22 +52,3 @@ export function stolenParts(steal, from, to, column) {
   }
   return parts;
 }
-
-/** Rows up to a time, and others from then on. @param {Steal} steal @param {number} now @param {StealRow[]} next @returns {StealRow[]} */
-export function stolenSince(steal, now, next) {
-  const after = next.map((it) => (it.every === undefined ? { ...it, from: Math.max(it.from, now) } : begunAfter(it, it.every, now)))
-    .filter((it) => it.from < it.to && it.from <= (it.until ?? it.from));
-  if (typeof steal === "number") return [...after.filter((it) => it.every !== undefined), { from: 0, to: now, percent: steal },
-    ...after.filter((it) => it.every === undefined)];
-  const before = steal.filter((it) => it.from < now).map((it) => (it.every === undefined
-    ? { ...it, to: Math.min(it.to, now) }
-    : { ...it, until: Math.min(it.until ?? now, now - 1) }));
-  // (a beat that began before is over: the first row counts)
-  return partsOf(before).beats.length > 0 ? [...after, ...before] : [...before, ...after];
-}
-
-/** A beat from the first time on that it comes. @param {StealRow} beat @param {number} every @param {number} now */
-function begunAfter(beat, every, now) {
-  const late = Math.max(0, Math.ceil((now - beat.from) / every)) * every;
-  return { ...beat, from: beat.from + late, to: beat.to + late };
-}

@@ -1,19 +1,16 @@
 /** The story beside the chart: the tour, what is told of the row, what may be tried, and an exercise's question. */
 import { accountOf, nameOfRestart, orderOf, standingOf } from "./account.js";
-import { becauseOf, lateOf, strawOf } from "./because.js";
-import { outcomeOf } from "./drawing-words.js";
+import { becauseOf, lateOf, short, strawOf } from "./because.js";
 import { assign, attribute, button, by, fill, make, set, withCode, withNumbers } from "./dom.js";
-import { FIRST_ASKED } from "./first.js";
 import { GUESSES } from "./guesses.js";
 import { loadOf } from "./job-table.js";
-import { jobsOf, missedIn, priorityOf, withPriority } from "./jobs.js";
+import { jobsOf, missedIn, periodOf, priorityOf, withPriority } from "./jobs.js";
 import { pieceOf } from "./pieces.js";
 import { predictionOf, verdictOf } from "./predict.js";
-import { LOG_FULL } from "./run.js";
 import { act, differ, isHidden, namesOf, rowsOf, shownOf } from "./state.js";
 import { counted, octal, seconds, visible } from "./words.js";
 
-/** @typedef {import("./state.js").State} State @typedef {[string, string, ...any[]]} Try what is on the button, the action, and what it is given */
+/** @typedef {import("./state.js").State} State @typedef {import("./run.js").Run} Run @typedef {[string, string, ...any[]]} Try what is on the button, the action, and what it is given */
 
 const SEEN = "agc-workbench-guide";
 
@@ -126,10 +123,7 @@ const begun = (text) => text.slice(0, 1).toUpperCase() + text.slice(1);
 /** At the beginning: how to go on. @param {State} now @param {any} shown @returns {Try[]} */
 function atBeginning({ run, count }, shown) {
   if (count === 0 && run.source.document !== "") return [];
-  if (count === 0) {
-    const asks = FIRST_ASKED.map(([line]) => /** @type {Try} */ ([line, "ask", line]));
-    return [...asks, ["A landing with alarm 1202", "kept", "landing-1202"]];
-  }
+  if (count === 0) return [["A landing with alarm 1202", "kept", "landing-1202"]];
   const alarm = run.alarms.find((row) => row > shown.row && row <= count);
   const late = run.isFilling ? 0 : Math.min(...jobsOf(run, count).flatMap((it) => it.missedRow || []));
   return /** @type {Try[]} */ ([...(alarm === undefined ? [] : [["To the first alarm", "go", alarm]]), ...(late > 0 && late < Infinity ? [["To the first deadline missed", "late", late]] : [])]);
@@ -141,19 +135,18 @@ function atLate({ run }, shown) {
   if (late === null || run.bench.seconds === undefined) return [];
   const at = octal(late.at, 5);
   const isUrgent = [null, MOST_URGENT].includes(priorityOf(run.bench, at));
-  return isUrgent ? [] : [[`${begun(late.name)} before all others?`, "change", withPriority(run.bench, at, MOST_URGENT), true]];
+  return isUrgent ? [] : [[`${begun(late.name)} before all others?`, "change", withPriority(run.bench, at, MOST_URGENT)]];
 }
 
 /** At an alarm: what might have prevented it. @param {State} now @param {any} shown @returns {Try[]} */
-function atAlarm({ run, beside }, shown) {
+function atAlarm({ run }, shown) {
   const { bench } = run;
   /** @type {Try[]} */
   const found = [];
-  const isFewer = shown.step?.number === 0o1202 && run.sets === 7;
-  if (bench.seconds === undefined) return isFewer ? [[beside === null ? "With eight core sets?" : "Stop comparing", "beside-sets-button"]] : [];
-  if (isFewer) found.push(["With eight core sets?", "change", { sets: 8 }, true]);
+  if (shown.step?.number === 0o1202 && run.sets === 7) found.push(["With eight core sets?", "change", { sets: 8 }]);
+  if (bench.seconds === undefined) return found;
   const isStolen = typeof bench.steal === "number" ? bench.steal > 0 : bench.steal.length > 0;
-  if (isStolen) found.push(["Without stolen time?", "change", { steal: 0 }, true]);
+  if (isStolen) found.push(["Without stolen time?", "change", { steal: 0 }]);
   const later = bench.event.filter((it) => it.name !== undefined && (it.at > 0 || it.after !== undefined));
   return [...found, ...later.slice(0, MOST_EVENTS).map((it) => /** @type {Try} */ ([`Without ${visible(it.name ?? "")}?`, "without", it.name]))];
 }
@@ -161,7 +154,6 @@ function atAlarm({ run, beside }, shown) {
 /** What may be tried at a row: where an exercise's answer is hidden, only what doesn't give it away. @param {State} now @param {any} shown @returns {Try[]} */
 export function triesOf(now, shown) {
   if (shown.row === 0) return isHidden(now) ? [] : atBeginning(now, shown);
-  if (shown.kind === LOG_FULL) return [["With room for a million requests", "room"]];
   const restart = nameOfRestart(shown.line);
   /** @type {Try[]} */
   const after = shown.after === null && !shown.isAfter ? [] : [shown.isAfter ? [`Before the ${restart}`, "go", shown.row] : [`After the ${restart}`, "after"]];
@@ -198,7 +190,7 @@ function leadOf(lines) {
 
 /** @param {State} now @param {State} before */
 export function account(now, before) {
-  if (!differ(now, before, "run", "count", "at", "isAfter", "hidden", "beside", "tour", "clock")) return;
+  if (!differ(now, before, "run", "count", "at", "isAfter", "hidden", "tour", "clock")) return;
   const { run, count } = now;
   const shown = shownOf(now);
   toTop(now, before);
@@ -228,18 +220,34 @@ export function account(now, before) {
   by("account").scrollTop = 0;
 }
 
+/** The jobs of an exercise that come again and again, as a table; nothing where it has none. @param {import("./bench.js").Bench} bench */
+function jobsAsked(bench) {
+  const rows = bench.job.filter((it) => it.cost !== 1).map(({ name, at, cost, deadline }) => [name ?? at, ...[periodOf(bench, at), cost].map((it) => (typeof it === "number" ? short(it) : "–")),
+    octal(priorityOf(bench, at) ?? 0, 2), deadline === undefined ? "–" : short(deadline)]);
+  const line = (/** @type {string} */ kind, /** @type {string[]} */ cells) => make("tr", {}, ...cells.map((it) => make(kind, {}, it)));
+  return rows.length === 0 ? [] : [make("table", { class: "jobs" }, make("thead", {}, line("th", ["job", "every", "needs", "priority", "deadline"])),
+    make("tbody", {}, ...rows.map((it) => line("td", it.map(visible)))))];
+}
+
+/** The document of an exercise: its requests, or its jobs, and all of it to unfold. @param {Run} run */
+function askedOf({ given, source: { document } }) {
+  const jobs = jobsAsked(given);
+  const parts = document.trim().split(/\n\n+/).map((it) => make("pre", {}, ...withNumbers(it)));
+  return jobs.length === 0 ? parts : [...jobs, make("details", { open: given.phase.length > 0 }, make("summary", {}, "The document"), make("div", { class: "parts" }, ...parts))];
+}
+
 /** An exercise: its question, its document, and what may be done. @param {State} now @param {State} before */
 export function question(now, before) {
-  if (!differ(now, before, "run", "count", "at", "hidden", "predicted", "tries")) return;
+  if (!differ(now, before, "run", "count", "at", "hidden", "predicted")) return;
   const { run, count } = now;
   const { question: asked, document, exercise } = run.source;
   assign(by("question"), { hidden: asked === "", className: isHidden(now) || now.at === 0 ? "question" : "question later" });
   const isChanged = asked !== "" && (run.source.isChanged || run.isChanged(count));
-  const key = JSON.stringify([asked, document, isHidden(now), isChanged, now.predicted, now.tries]);
+  const key = JSON.stringify([asked, document, isHidden(now), isChanged, now.predicted]);
   if (by("question").dataset.key === key) return;
   by("question").dataset.key = key;
   assign(by("asked"), { hidden: asked === "" });
-  fill("asked", asked === "" ? [] : document.trim().split(/\n\n+/).map((it) => make("pre", {}, ...withNumbers(it))));
+  fill("asked", asked === "" ? [] : askedOf(run));
   if (asked === "") return;
   const [, ...lines] = asked.split("\n");
   const order = isHidden(now) ? "" : orderOf(run.bench);
@@ -258,11 +266,4 @@ export function question(now, before) {
       ...(next === undefined ? [] : [button("Next exercise", () => act("kept", next), { id: "exercise-next" })]),
       ...(isChanged ? [button("Back to the exercise as it was", () => act("kept", exercise), { id: "exercise-again" }), "You have changed this exercise."] : [])),
   ]);
-}
-
-/** What is said of a run beside. @param {State} now @param {number} row @param {string} reply */
-export function besideText({ beside }, row, reply) {
-  if (beside === null) return "";
-  const { run, name } = beside;
-  return `For comparison, ${name}: request ${row}, ${reply}. ${run.isFilling ? "So far" : "In all"} ${outcomeOf(run, run.count)}.`;
 }

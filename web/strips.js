@@ -83,7 +83,7 @@ class Strip {
     this.box = make("div", { class: "swept" }, this.canvas, this.said);
     this.canvas.addEventListener("click", (/** @type {MouseEvent} */ event) => {
       const value = this.valueAt(event.offsetX);
-      if (value !== this.number.value) act("change", this.number.given(value), undefined, this.number.name);
+      if (value !== this.number.value) act("change", this.number.given(value), this.number.name);
     });
     this.canvas.addEventListener("pointermove", (/** @type {MouseEvent} */ event) => { this.canvas.title = this.told(this.valueAt(event.offsetX)); });
   }
@@ -131,7 +131,7 @@ class Strip {
 
 /** A value of a number, with its unit. @param {{ unit: string }} number @param {number} value */
 export function valueText({ unit }, value) {
-  return unit === "cs" ? seconds(value) : `${value} ${unit}`.trim();
+  return unit === "cs" ? seconds(value) : unit === "octal" ? octal(value, 2) : `${value} ${unit}`.trim();
 }
 
 /** @param {Firsts} firsts */
@@ -206,7 +206,7 @@ export function marksOf(swept, width, size) {
     }
     end();
   }
-  if (times.length > 0) marks.push({ kind: "text", x: width - 2, y: text, text: seconds(most), size: text, fill: "soft", anchor: "end" });
+  if (times.length > 0) marks.push({ kind: "text", x: width - 2, y: text, text: `latest alarm ${seconds(most)}`, size: text, fill: "soft", anchor: "end" });
   const [none, misses] = toldOf(swept);
   const last = free.at(-1);
   if (last !== undefined) {

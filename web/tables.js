@@ -10,11 +10,11 @@
  */
 import { nameOfRestart } from "./account.js";
 import { assign, attribute, by, fill, make, set } from "./dom.js";
-import { coloursOf, differ, namesOf, rowsOf, shownOf } from "./state.js";
+import { coloursOf, differ, namesOf, shownOf } from "./state.js";
 import { PLACES, octal, seconds, wordName } from "./words.js";
 
 /** How many boxes a list has at most, and how many lines each has below its name. */
-const LISTS = { sets: [8, 3], "beside-sets": [8, 3], areas: [5, 1], tasks: [PLACES, 1], phases: [6, 0], codes: [3, 0], newjob: [1, 0] };
+const LISTS = { sets: [8, 3], areas: [5, 1], tasks: [PLACES, 1], phases: [6, 0], codes: [3, 0], newjob: [1, 0] };
 
 /** @typedef {ReturnType<typeof boxOf>} BoxNode @type {Record<string, BoxNode[]>} */
 const made = {};
@@ -25,7 +25,7 @@ function boxOf(list, lines, k) {
     name: make("span", { class: "name" }), strong: make("b", {}),
     more: Array.from({ length: lines }, () => make("span", {})), changed: make("span", { class: "hidden" }),
     bar: list === "tasks" ? make("progress", { "aria-hidden": "true", max: 1 }) : null,
-    cover: list === "beside-sets" ? null : make("button", { type: "button", class: "cover", tabIndex: k === 0 ? 0 : -1 }),
+    cover: make("button", { type: "button", class: "cover", tabIndex: k === 0 ? 0 : -1 }),
   };
   const parts = [nodes.name, nodes.strong, ...nodes.more, nodes.bar, nodes.changed, nodes.cover];
   return { ...nodes, item: make("li", {}, ...parts.filter((it) => it !== null)) };
@@ -63,7 +63,7 @@ function draw(list, boxes, isStep = false) {
     set(box.changed, isNew ? "changed" : "");
     if (box.bar !== null) assign(box.bar, { hidden: bar === undefined, value: bar ?? 0 });
     const told = [strong, ...more].filter((it) => it !== "").join(", ");
-    if (box.cover !== null) attribute(box.cover, "aria-label", `${name}: ${told}. What is it?`);
+    attribute(box.cover, "aria-label", `${name}: ${told}. What is it?`);
   });
 }
 
@@ -94,7 +94,7 @@ function setBox(shown, k, names, colours) {
   const name = names.job(jobsFrom[k]);
   return { name: `set ${k}`, strong: name ?? `job ${job.number}`, isNew,
     style: `${job.asleep ? `asleep h${colour}` : runs ? `j${colour} runs` : `s${colour}`}${comes(shown, job)}`,
-    more: [...(name === undefined ? [`${stands}${area}`, `at ${octal(job.at, 5)}`] : [stands, `job ${job.number}${area}`]), `priority ${names.priority(job.priority)}`] };
+    more: [...(name === undefined ? [`${stands}${area}`, `at ${octal(job.at, 5)}`] : [stands, `job ${job.number}${area}`]), `priority ${octal(job.priority, 2)}`] };
 }
 
 /** @param {Shown} shown @param {number} k @param {Names} names @param {Colours} colours @returns {Box} */
@@ -145,24 +145,8 @@ export function drawWords(now) {
   words.forEach((word, k) => set(rows.children[k].children[1], octal(word, 5)));
 }
 
-/** The run beside, at the same time, or the same request. @param {State} now */
-function drawBeside(now) {
-  const { beside, run, at } = now;
-  assign(by("beside"), { hidden: beside === null });
-  if (beside === null) return;
-  const { run: other } = beside;
-  const row = run.bench.seconds === undefined ? Math.min(at, other.count) : other.rowAtTime(run.ticksAt(at), other.count);
-  const shown = rowsOf(other).at(row);
-  draw("beside-sets", shown.scene.sets.map((_, k) => setBox(shown, k, namesOf(other), coloursOf(run))));
-  return { row, reply: shown.reply };
-}
-
-/** @param {State} now @param {State} before @param {(now: State, row: number, reply: string) => string} told what is said of the run beside */
-export function tables(now, before, told) {
-  if (differ(now, before, "beside", "run", "at", "clock")) {
-    const found = drawBeside(now);
-    if (found !== undefined) set(by("beside-name"), told(now, found.row, found.reply));
-  }
+/** @param {State} now @param {State} before */
+export function tables(now, before) {
   if (!differ(now, before, "run", "at", "isAfter", "hidden")) return;
   const shown = shownOf(now);
   const { scene } = shown;
@@ -171,8 +155,9 @@ export function tables(now, before, told) {
   const alarm = shown.isAfter ? 0 : shown.step?.alarm ?? 0;
   for (const [id, code] of Object.entries({ areas: 0o1201, sets: 0o1202, tasks: 0o1203 })) by(id).classList.toggle("full", alarm === code);
   // (what a newcomer needn't see is folded, unless the alarm is about it, or nothing else tells of time)
-  const isTimed = now.run.bench.seconds !== undefined;
-  if (alarm === 0o1201 || alarm === 0o1203 || (now.run.given !== (before.run ?? now.run).given)) assign(by("more"), { open: !isTimed || alarm !== 0 });
+  const isAsked = now.run.bench.seconds === undefined && now.count > 0;
+  const isOther = now.run.given !== before.run?.given || (now.count > 0) !== (before.count > 0);
+  if (alarm === 0o1201 || alarm === 0o1203 || isOther) assign(by("more"), { open: isAsked || alarm !== 0 });
   by("tables").classList.toggle("after", shown.isAfter === true);
   by("tables").classList.toggle("begins", shown.row === 0);
   for (const id of ["sets", "tasks"]) by(id).classList.toggle("swept", shown.isAfter === true);

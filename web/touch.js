@@ -3,7 +3,7 @@
  * it is, who is there since when and by which request, and what can be asked of it.
  */
 import { sinceOf } from "./account.js";
-import { assign, button, by, fill, make, set } from "./dom.js";
+import { assign, button, by, fill, make, priorities, set } from "./dom.js";
 import { act, differ, namesOf, shownOf, state } from "./state.js";
 import { pieceOf } from "./pieces.js";
 import { octal, seconds } from "./words.js";
@@ -33,11 +33,9 @@ function ofJob(run, shown, job, since, from) {
   const runs = shown.scene.running === job.number;
   const state = runs ? "It runs" : job.asleep ? "It sleeps" : "It waits for its turn";
   const pieces = [`Job ${job.number} began at ${names.ofJob(from)}`, ...sinceOf(run, since),
-    `. ${state}, with priority ${names.priority(job.priority)}${job.area > 0 ? `, and owns VAC area ${job.area}` : ""}.`];
+    `. ${state}, with priority ${octal(job.priority, 2)}${job.area > 0 ? `, and owns VAC area ${job.area}` : ""}.`];
   if (runs) {
-    const prio = make("select", { "aria-label": "Priority", onchange: () => act("ask", `prio ${prio.value}`) },
-      ...Array.from({ length: 31 }, (_, n) => make("option", { value: octal(n + 1, 2) }, names.priority(n + 1))));
-    prio.value = octal(job.priority, 2);
+    const prio = priorities(job.priority, { "aria-label": "Priority", onchange: () => act("ask", `prio ${prio.value}`) });
     return { pieces, actions: [asks("end", "End it"), asks(`sleep ${octal(job.at, 5)}`, "Put it to sleep"), make("label", {}, "Priority ", prio)] };
   }
   if (job.asleep) return { pieces, actions: [asks(`rouse ${octal(job.at, 5)}`, "Wake it")] };

@@ -45,13 +45,13 @@ test("an alarm's account has who holds the table since when, and what begins aga
     "All jobs and tasks are gone. By the phases 0 0 3 0 0 0 these begin again: job 1, priority 10, at 06000; task 05000 in 0.20 s.");
   assert.deepEqual(toldOf(NAMED, 24), ["Alarm 1201: why",
     "All five VAC areas are owned. These hold them:",
-    "set 1: job 1, priority 16, at 06000, area 1, since request 2", "set 2: job 3, priority 8, at WORK (05000), area 2, since request 11 (0.02 s)",
-    "set 4: job 5, priority 16, at WORK (05000), area 3, since request 20 (0.10 s)", "set 5: job 6, priority 16, at WORK (05000), area 4, since request 21 (0.10 s)",
-    "set 6: job 7, priority 16, at WORK (05000), area 5, since request 22 (0.10 s)",
+    "set 1: job 1, priority 20, at 06000, area 1, since request 2", "set 2: job 3, priority 10, at WORK (05000), area 2, since request 11 (0.02 s)",
+    "set 4: job 5, priority 20, at WORK (05000), area 3, since request 20 (0.10 s)", "set 5: job 6, priority 20, at WORK (05000), area 4, since request 21 (0.10 s)",
+    "set 6: job 7, priority 20, at WORK (05000), area 5, since request 22 (0.10 s)",
     "Since the beginning 7 jobs began and 0 ended, and the computer was idle 0 % of the time. There was hardly any time to end more. Job 2 ran.",
     "It was asked in the tick of request 24, by action 2 of the task ALPHA (02000): findvac 10 05000 00007.",
     "The tables are as they were when the alarm came.",
-    "All jobs and tasks are gone. By the phases 0 3 0 0 0 0 these begin again: job 1, priority 13, at 05100; task BETA (02100) in 0.09 s."]);
+    "All jobs and tasks are gone. By the phases 0 3 0 0 0 0 these begin again: job 1, priority 15, at 05100; task BETA (02100) in 0.09 s."]);
   const waiting = asks(["list 40 02010 00005", "list 20 02010 00005", ...Array(8).fill("list 50 02020 00005")]);
   tells(waiting, 10, "Nine tasks wait:", "No job was running.", "place 1: task 02010, in 0.20 s, since request 2",
     "place 2: task 02010, in 0.40 s, since request 1", "place 3: task 02020, in 0.50 s, since request 3");

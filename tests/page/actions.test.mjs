@@ -6,7 +6,6 @@ import { orderOf } from "../../web/account.js";
 import { lateOf } from "../../web/because.js";
 import { summaryOf } from "../../web/drawing-words.js";
 import { fillOn } from "../../web/clock.js";
-import { parting } from "../../web/history.js";
 import { jobsOf, missedIn } from "../../web/jobs.js";
 import { judged } from "../../web/predict.js";
 import { isHidden, namesOf, rowOf, shownOf, textOf } from "../../web/state.js";
@@ -43,11 +42,9 @@ test("a title is that of what is shown", () => {
   assert.deepEqual(titles, ["what was pasted", "A title", "what was pasted", "A title"]);
 });
 
-test("undo, redo, and branches", () => {
+test("undo and redo", () => {
   const page = new Page(THREE_ALARMS).act("typed", "6").act("ask", "tick");
   assert.equal(textOf(page.now, "note"), "The 18 requests that followed are set aside; Undo brings them back.");
-  assert.match(page.now.history.branches[0].name, /^branch 1, left at request 6 to ask something else$/);
-  assert.equal(parting(page.now, page.now.history.branches[0]), 7);
   assert.deepEqual([page.now.count, page.outcome.split(";")[0]], [7, "no alarm"]);
   const shown = () => [page.now.at, page.now.count, page.now.history.undone.length];
   assert.deepEqual([page.act("undo"), shown()].slice(1), [[6, 24, 1]]);
@@ -57,22 +54,24 @@ test("undo, redo, and branches", () => {
     page.act(name);
     assert.deepEqual(shown(), wanted, name);
   }
-  page.act("branch", 0);
-  assert.deepEqual([page.now.count, page.now.at], [24, 6]);
-  for (let k = 0; k < 53; k++) page.act("ask", "tick").act("back");
-  assert.equal(page.now.history.branches.length, 50);
   const ticks = new Page("");
   for (let k = 0; k < 10; k++) ticks.act("ask", "tick");
   for (let k = 0; k < 9; k++) ticks.act("undo");
   assert.deepEqual([ticks.now.count, ticks.act("ask", "change").sentence], [1, "Request 2 of 2, at 0.01 s: change. Reply: no job. No job is running."]);
 });
 
-test("more room is given, for the same requests", () => {
+test("a log that is full is told", () => {
   const full = new Page(script(Array(1400).fill("tick")));
   assert.match(summaryOf(full.now.run, 1400), /no alarm; 400 requests refused, from request 1001 on, since the log was full\.$/);
-  assert.deepEqual(full.act("typed", "1001").tries, ["With room for a million requests"]);
-  assert.match(full.act("room").outcome, /^no alarm;/);
-  assert.match(full.now.history.branches[0].name, /to have more room$/);
+});
+
+/** The ninth job finds eight core sets in use, as the eighth finds seven. */
+test("a bench runs with eight core sets, at the same row", () => {
+  const page = new Page(script(Array(9).fill(NOVAC))).act("alarm-next");
+  const [[name, ...given]] = triesOf(page.now, shownOf(page.now)).slice(1);
+  assert.deepEqual([name, page.now.at], ["With eight core sets?", 8]);
+  page.act(.../** @type {[string]} */ (given));
+  assert.deepEqual([page.now.at, page.now.run.alarms, page.before], [8, [9], "1 alarm: 1202, in request 8; at most 7 of 7 core sets"]);
 });
 
 test("after a restart its tables are shown, and what begins again", () => {
@@ -106,12 +105,10 @@ test("what might have prevented an alarm is offered", () => {
   assert.equal(page.act("without", "first").differs, "This run differs from its document: without first; without second.");
 });
 
-test("a slider acts from the beginning, or from the row that is shown", () => {
+test("a slider runs the document with another number", () => {
   const page = new Page("#landing-1202").act("alarm-next").slide("Stolen time", 0);
   assert.match(page.before, /^1 alarm: 1202, in request 3128 at 30\.50 s;/);
   assert.deepEqual([page.outcome.split(";")[0], page.differs], ["no alarm", "This run differs from its document: steal 0 % (document: 15 %)."]);
-  page.act("typed", "30.5 s").act("here", true).slide("Stolen time", 15);
-  assert.equal(page.differs, "This run differs from its document: steal 0 until 30.50 s, then 15 % (document: 15 %).");
   for (const [name, value, wanted] of /** @type {[string, number, string][]} */ ([["SERVICER needs", 100, "SERVICER costs 1.00 s (document: 1.70 s)"],
     ["Core sets", 8, "core sets 8 (document: 7)"], ["SERVICER every", 300, "SERVICER every 3.00 s (document: 2.00 s)"]])) {
     assert.equal(new Page("#landing-1202").slide(name, value).differs, `This run differs from its document: ${wanted}.`);
@@ -120,12 +117,14 @@ test("a slider acts from the beginning, or from the row that is shown", () => {
   for (const [percent, when] of /** @type {[number, string][]} */ ([[14, ""], [8, "at 38.50 s"], [5, "at 50.50 s"], [2, ""]])) {
     keys.slide("Stolen time", percent);
     assert.match(keys.before, /^1 alarm: 1202, in request 3128 at 30\.50 s;/);
-    assert.ok(keys.outcome.includes(when) && keys.now.history.branches.length === 1, keys.outcome);
+    fillOn(keys.now.run, Infinity);
+    keys.act("filled", keys.now.run);
+    assert.ok(keys.outcome.includes(when), keys.outcome);
   }
   assert.deepEqual([keys.outcome.split(";")[0], keys.act("undo").now.at], ["no alarm", 3128]);
   const beats = new Page("seconds = 2\nsteal = [{ from = 10, to = 12, percent = 100, every = 50 }, { from = 0, to = 360000, percent = 15 }]\n");
-  assert.equal(beats.act("typed", "1 s").act("here", true).slide("Stolen time", 20).differs, "This run differs from its document: "
-    + "steal 100 for 0.02 s of each 0.50 s, else 15 until 1.00 s, then 20 % (document: 100 for 0.02 s of each 0.50 s, else 15 %).");
+  assert.equal(beats.slide("Stolen time", 20).differs, "This run differs from its document: "
+    + "steal 100 for 0.02 s of each 0.50 s, else 20 % (document: 100 for 0.02 s of each 0.50 s, else 15 %).");
 });
 
 /** Half of the time is stolen; a job takes 0.2 seconds, and at 1.5 s another the rest. */
@@ -158,12 +157,13 @@ test("an exercise that is changed keeps its question, and undo brings back what 
   assert.deepEqual([page.now.run.source.question, page.act("undo").now.run.source.question], ["", question]);
 });
 
-test("a first wrong try gets a hint, and a second one the answer", () => {
+test("a wrong try gives no answer away, and what is all right shows what happens", () => {
   const page = new Page("#exercise-1").act("check", ["", ""]);
   assert.match(textOf(page.now, "note"), /^Say first what you expect/);
   const seen = () => [isHidden(page.now), judged(page.now, page.now.predicted).map((it) => it.isRight)];
   assert.deepEqual([page.act("check", ["12", "1202"]), seen()].slice(1), [[true, [true, false]]]);
-  assert.deepEqual([page.act("check", ["12", "1203"]), seen()].slice(1), [[false, [true, false]]]);
+  assert.deepEqual([page.act("check", ["12", "1203"]), seen()].slice(1), [[true, [true, false]]]);
+  assert.deepEqual([page.act("check", ["12", "1201"]), seen()].slice(1), [[false, [true, true]]]);
   assert.equal(judged(page.now, page.now.predicted)[1].row, 12);
   const right = new Page("#exercise-10").act("check", ["22 %", "20"]);
   assert.equal(isHidden(right.now), false);
@@ -194,12 +194,12 @@ test("why a job is late is told, and what would run it sooner", () => {
   const { run, count } = page.now;
   page.act("late", jobsOf(run, count).find((it) => it.missed > 0)?.missedRow);
   assert.equal(lateOf(run, shownOf(page.now), namesOf(run))?.text, "steering was asked for at 0.01 s and had to end by 1.01 s. Since then guidance has had 1 s of computing, steering none. "
-    + "First goes guidance, by its priority 16: steering has 8.");
+    + "First goes guidance, by its priority 20: steering has 10.");
   assert.deepEqual(jobsOf(run, run.rowAtTime(500, count)).map((it) => [it.began, it.ended, it.missed]), [[3, 2, 0], [5, 4, 2]]);
   const [[name, ...given]] = triesOf(page.now, shownOf(page.now));
   assert.equal(name, "Steering before all others?");
   page.act(.../** @type {[string]} */ (given));
-  assert.deepEqual([missedIn(run, count), missedIn(page.now.run, page.now.count), page.differs], [10, 0, "This run differs from its document: steering priority 31 (document: 8)."]);
+  assert.deepEqual([missedIn(run, count), missedIn(page.now.run, page.now.count), page.differs], [10, 0, "This run differs from its document: steering priority 37 (document: 10)."]);
   assert.deepEqual(page.act("last").tries, []);
 });
 

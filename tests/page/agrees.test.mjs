@@ -1,10 +1,11 @@
 // Of random scenarios the strip of a slider has the first alarms that `agc_watch sweep` has, and the table of jobs what `agc_watch jobs`
-// has; and of each with another priority and stolen time the strip has the first missed deadline that `jobs` has. AGREEMENTS in the
-// environment says how many scenarios there are.
+// has; and of each with another priority and stolen time the strip has the first missed deadline that `jobs` has. No job takes longer
+// than its longest response is calculated. AGREEMENTS in the environment says how many scenarios there are.
 import assert from "node:assert/strict";
 import { test } from "node:test";
 import { Lacking, start } from "../../libagc/js/machine.js";
 import { readBench, writeBench } from "../../web/bench.js";
+import { boundsOf } from "../../web/bounds.js";
 import { runOf } from "../../web/clock.js";
 import { jobsOf, withPriority } from "../../web/jobs.js";
 import { moduleBytes } from "../../web/picture.mjs";
@@ -65,7 +66,10 @@ function computed(text) {
   try {
     const bench = readBench(text);
     const run = runOf(bench, [], {}, Infinity);
-    return { bench, swept: sweptBy(bench), jobs: jobsOf(run, run.count).map(cellsOf) };
+    const jobs = jobsOf(run, run.count);
+    const limits = run.alarms.length > 0 ? null : boundsOf(bench);
+    for (const { at, most } of jobs) assert.ok(most <= (limits?.longest.get(at) ?? Infinity), `${octal(at, 5)} takes ${most}: ${text}`);
+    return { bench, swept: sweptBy(bench), jobs: jobs.map(cellsOf) };
   } catch (fault) {
     if (fault instanceof Lacking || fault instanceof Unread) return null;
     throw fault;

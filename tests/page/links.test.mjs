@@ -29,7 +29,7 @@ function exchanged(it) {
   if (it === null || typeof it !== "object" || Object.keys(it).length === 0 || below(5) === 0) return choice(ODD);
   const key = choice(Object.keys(it));
   if (Array.isArray(it)) return below(7) === 0 ? it.toSpliced(Number(key), 1) : it.with(Number(key), exchanged(it[Number(key)]));
-  return { ...it, [below(5) === 0 ? choice(["x", "plan", "parts", "sets", "__proto__"]) : key]: exchanged(it[key]) };
+  return { ...it, [below(5) === 0 ? choice(["x", "given", "parts", "sets", "__proto__"]) : key]: exchanged(it[key]) };
 }
 
 /** A damaged link. @param {string[]} marks */
@@ -56,7 +56,7 @@ async function opened(mark) {
   const given = readBench(text);
   if (done === "") return { run: begunOf(given, { title: "", about: "", source: NO_SOURCE, given }), parts: [] };
   const recipe = await readRecipe(done, given);
-  const run = begunOf({ ...given, ...recipe.plan }, { title: "", about: "", source: NO_SOURCE, given });
+  const run = begunOf({ ...given, ...recipe.given }, { title: "", about: "", source: NO_SOURCE, given });
   await follow(run, recipe, passTime, async () => {});
   return { run, parts: recipe.parts };
 }

@@ -4,16 +4,18 @@ import { test } from "node:test";
 import { Clock, start } from "../../libagc/js/machine.js";
 import { Names, accountOf, orderOf, standingOf } from "../../web/account.js";
 import { follow, readAddress, readRecipe } from "../../web/address.js";
+import { runWith } from "../../web/clock.js";
+import { periodOf } from "../../web/because.js";
 import { countOf, readBench, requestsOf, textFault, writeBench } from "../../web/bench.js";
 import { summaryOf } from "../../web/drawing-words.js";
 import { Colours } from "../../web/colours.js";
 import { Column } from "../../web/column.js";
 import { firstSentence, packed, textOfData, withoutQuestion } from "../../web/files.js";
 import { documentOfScript, forgiven } from "../../web/forgive.js";
-import { NOTHING_DONE, exchanged, goingOn, parting } from "../../web/history.js";
+import { goingOn } from "../../web/history.js";
 import { Run, afterOf } from "../../web/run.js";
 import { differencesOf, numbersOf } from "../../web/sliders.js";
-import { stolenAt, stolenParts, stolenSince } from "../../web/stolen.js";
+import { stolenAt, stolenParts } from "../../web/stolen.js";
 import { Scale } from "../../web/drawing-scale.js";
 import { moduleBytes } from "../../web/picture.mjs";
 import { completions } from "../../web/typing.js";
@@ -99,41 +101,8 @@ test("stolen time holds", () => {
     [499, 0], [500, 20], [599, 20], [600, 0]]) {
     expect(`stolen at ${time}`, stolenAt(steal, time), wanted);
   }
-  const last = { from: 100, to: 900, percent: 7 };
-  expect("a percentage, and another", stolenSince(30, 100, [last]), [{ from: 0, to: 100, percent: 30 }, last]);
-  const rows = [{ from: 0, to: 100, percent: 50 }, { from: 100, to: 200, percent: 10 }];
-  expect("a row that would begin then", stolenSince(rows, 100, [last]), [rows[0], last]);
-  expect("a row that is cut", stolenSince(rows, 70, [last]), [{ ...rows[0], to: 70 }, last]);
-  expect("a beat", stolenSince([{ ...beat, until: undefined }], 100, [last]), [last, { ...beat, until: 99 }]);
-  expect("a beat that would come then", stolenSince([{ ...beat, until: 160 }], 60, [last]), [last, { ...beat, until: 59 }]);
-  expect("rows that begin before then, and after", stolenSince(30, 100, [{ from: 0, to: 90, percent: 1 }, { from: 90, to: 130, percent: 2 }, { from: 130, to: 900, percent: 3 }]),
-    [{ from: 0, to: 100, percent: 30 }, { from: 100, to: 130, percent: 2 }, { from: 130, to: 900, percent: 3 }]);
-  expect("a beat that comes again", stolenSince(30, 100, [{ ...beat, until: 170 }, last]), [{ ...beat, from: 110, to: 112, until: 170 }, { from: 0, to: 100, percent: 30 }, last]);
-  expect("a beat that is over", stolenSince(30, 111, [beat]), [{ from: 0, to: 111, percent: 30 }]);
   expect("half of each third centisecond", stolenParts([{ from: 0, to: 1, percent: 50, every: 3 }], 0, 6, 3),
     [{ from: 0, to: 6, percent: 17 }]);
-});
-
-/** The clock's numbers that are changed after a row hold in a run that goes on from a later one. */
-test("a change holds from its row on", () => {
-  const bench = readBench('seconds = 9\n[[job]]\nat = "04000"\ncost = 300\n[[event]]\nat = 0\ndo = "novac 20 04000 00005"\n');
-  const byClock = () => "the clock";
-  for (const at of [255, 256, 257]) {
-    const run = clockedRun(bench);
-    run.askByClock(at, byClock);
-    run.change({ steal: 100 }, { steal: 100 });
-    run.askByClock(20, byClock);
-    const there = run.fork(at);
-    there.askByClock(20, byClock);
-    for (const [from, whole] of /** @type {[Run, Run][]} */ ([[run, run.fork(at + 10)], [there, there.fork(at + 10)]])) {
-      whole.askByClock(500, byClock);
-      const told = [whole.lines.includes("end"), whole.bench.steal, from.bench.steal];
-      expect(`the job ends, all being stolen from row ${at} on`, told, [false, 100, 100]);
-    }
-    const before = run.fork(at - 1);
-    before.askByClock(500, byClock);
-    expect(`the job ends, going on before row ${at}`, [before.lines.includes("end"), before.bench.steal], [true, 0]);
-  }
 });
 
 /** What an event asks at one time is one mark on the chart; what it asks later is another. */
@@ -162,8 +131,7 @@ test("a profile of stolen time stays one", () => {
   const [stolen] = numbersOf(run);
   expect("its number", [stolen.value, stolen.unit], [40, "% at most"]);
   expect("half of it", stolen.given(20), { steal: [{ from: 0, to: 300, percent: 5 }, { from: 300, to: 900, percent: 20 }] });
-  run.change(stolen.given(0), stolen.given(0));
-  const [none] = numbersOf(run);
+  const [none] = numbersOf(runWith(run, stolen.given(0), 0));
   expect("nothing, and as it was", [none.value, none.given(40)], [0, { steal: run.given.steal }]);
   const beat = { from: 0, to: 1, percent: 100, every: 20 };
   const [beside] = numbersOf(new Run(readBench("seconds = 9\nsteal = [{ from = 0, to = 1, percent = 100, every = 20 }]\n")));
@@ -172,21 +140,16 @@ test("a profile of stolen time stays one", () => {
   expect("a percentage", [plain.value, plain.unit, plain.given(20)], [15, "%", { steal: 20 }]);
 });
 
-/** Of several changes at one time the last holds; of two events at one time one is left out. */
+/** Of two events at one time one is left out. */
 test("differences are told", () => {
-  const bench = readBench('seconds = 2\n[[job]]\nname = "WORK"\nat = "04000"\ncost = 10\n'
+  const bench = readBench('seconds = 2\n[[job]]\nname = "WORK"\nat = "04000"\ncost = 10\ndeadline = 50\n'
     + '[[event]]\nname = "A"\nat = 150\ndo = "tick"\n[[event]]\nname = "B"\nat = 150\ndo = "tick"\n');
-  const run = clockedRun(bench);
-  const change = (/** @type {any} */ given) => run.change(given, given);
-  for (const costs of [[37, 40], [10]]) {
-    run.askByClock(50, () => "the clock");
-    for (const cost of costs) change({ job: [{ ...bench.job[0], cost }] });
-  }
   const told = "This run differs from its document: ";
-  const work = "WORK costs 0.10 s until 0.50 s, then 0.40 s until 1.00 s, then 0.10 s (document: 0.10 s)";
-  expect("costs", differencesOf(run), `${told}${work}.`);
-  change({ steal: stolenSince(0, 100, [{ from: 100, to: 200, percent: 30 }]), event: bench.event.slice(0, 1) });
-  expect("all that differs", differencesOf(run), `${told}steal 0 until 1.00 s, then 30 % (document: 0 %); ${work}; without B.`);
+  const other = (/** @type {any} */ given) => differencesOf(runWith(clockedRun(bench), given, 0));
+  expect("a cost", other({ job: [{ ...bench.job[0], cost: 37 }] }), `${told}WORK costs 0.37 s (document: 0.10 s).`);
+  expect("a deadline", other({ job: [{ ...bench.job[0], deadline: 70 }] }), `${told}WORK deadline 0.70 s (document: 0.50 s).`);
+  expect("all that differs", other({ steal: [{ from: 100, to: 200, percent: 30 }], event: bench.event.slice(0, 1) }),
+    `${told}steal 0 until 1.00 s, then 30 % (document: 0 %); without B.`);
 });
 
 /** A part that is seen is within the run, and has twenty ticks at least. */
@@ -249,13 +212,20 @@ test("refused requests change nothing", () => {
   expect("a restart", [restart.scene.sets[0]?.number, after.scene.sets[0], after.last?.sets[0]?.number], [1, null, 1]);
 });
 
-/** A run goes on from what is shown: it is set aside only where rows that are shown are left. */
-test("what is left is branch", () => {
+/** A run goes on from what is shown: a copy, unless that is its last row. */
+test("a run goes on from its last row", () => {
   const run = runOf(["tick", "tick", "tick", "tick"]);
-  for (const [count, at, branches, isSame] of /** @type {[number, number, number, boolean][]} */ ([[4, 4, 0, true], [2, 2, 0, false], [4, 3, 1, false]])) {
-    const { run: other, history } = goingOn(NOTHING_DONE, { run, count, at });
-    expect(`going on at ${at} of ${count}`, [other === run, other.count, history.branches.length], [isSame, at, branches]);
+  for (const [count, at, isSame] of /** @type {[number, number, boolean][]} */ ([[4, 4, true], [2, 2, false], [4, 3, false]])) {
+    const other = goingOn({ run, count, at });
+    expect(`going on at ${at} of ${count}`, [other === run, other.count], [isSame, at]);
+    expect(`what comes after row ${at}`, [run.fork(2).columns.ticks.items[2], run.fork(2).columns.ticks.items[3]], [2, 0]);
   }
+});
+
+/** Jobs of one address begin with requests 1, 3 and 6, after 0, 1 and 3 ticks: of the gaps, 1 and 2, the greater one is in the middle. */
+test("how often jobs come is the middle of their gaps", () => {
+  const run = runOf(["novac 20 04000 00005", "tick", "novac 20 04000 00005", "tick", "tick", "novac 20 04000 00005"]);
+  expect("three jobs, and two", [periodOf(run, 0o4000, 6), periodOf(run, 0o4000, 5)], [2, 0]);
 });
 
 /** One of fifty centiseconds before an alarm, and two of three, rounded down as by agc_watch peaks; and which phase words disagree. */
@@ -297,11 +267,11 @@ test("recipes are read", async () => {
   const bench = readBench("seconds = 1\n");
   const isTaken = async (/** @type {any} */ recipe) => readRecipe(await packed(JSON.stringify(recipe)), bench).then(() => true, () => false);
   for (const [recipe, wanted] of /** @type {[any, boolean][]} */ ([[{ parts: [] }, true], [{ parts: [["c", 5], ["d", 0], ["y", "tick", "you"]] }, true],
-    [{ parts: [["s", { steal: 100 }]] }, true], [{ plan: { sets: 8 }, parts: [] }, true], [{ parts: [["y", "tick", "the clock"]] }, false],
+    [{ given: { steal: 100 }, parts: [] }, true], [{ given: { sets: 8 }, parts: [] }, true], [{ parts: [["y", "tick", "the clock"]] }, false],
     [{ parts: [["y", "tick", "event 1"]] }, false], [{ parts: [["y", "tick"]] }, false], [{ parts: [["c", -1]] }, false], [{ parts: [["d", 0.5]] }, false],
-    [{ parts: [["s", { steal: 101 }]] }, false], [{ parts: [["s", { sets: 8 }]] }, false], [{ plan: { sets: 9 }, parts: [] }, false],
-    [{ plan: { steal: 1 }, parts: [] }, false], [{ plan: {} }, false], [{ parts: [["x", 1]] }, false]])) {
-    expect(JSON.stringify(recipe), await isTaken(recipe), wanted);
+    [{ given: { steal: 101 }, parts: [] }, false], [{ given: { sets: 9 }, parts: [] }, false], [{ given: { limit: 1 }, parts: [] }, false],
+    [{ given: {}, parts: 1 }, false], [{ parts: [["x", 1]] }, false]])) {
+    expect(JSON.stringify(recipe), await isTaken({ given: {}, ...recipe }), wanted);
   }
   expect("an address", readAddress("#landing&at=7&see=0-90&do=x&was=0&shown&embed"),
     { name: "landing", bench: "", at: 7, see: [0, 90], done: "x", was: "0", isShown: true, isEmbedded: true });
@@ -322,20 +292,6 @@ test("links are followed in stretches", async () => {
   const scripted = () => new Run(readBench('script = ["tick", "tick"]\n'));
   expect("the document's own", await followed(scripted(), [["d", 2]]), [2, 0, ""]);
   expect("more than it has", await followed(scripted(), [["d", 3]]), [2, 0, "it asks for more than its document has"]);
-});
-
-/** Where a task rouses job 1, a change of jobs brings it: so much is used in both runs. */
-test("runs part", () => {
-  const lines = ["novac 20 04000 00005", "novac 10 05000 00005", "sleep 06000", "list 1 02000 00005", "tick", "change"];
-  const task = (/** @type {string} */ action) => `task = [{ at = "02000", bank = "00005", action = "${action}" }]\n`;
-  const [one, other] = ["nothing", "rouse 06000"].map((it) => runOf(lines, task(it)))
-    .map((run) => ({ run, count: run.count, at: 0 }));
-  expect("two runs part", parting(one, other), 6);
-  expect("a run parts from itself", parting(one, one), 7);
-  const short = { run: runOf(["tick", "tick"]), count: 2, at: 2 };
-  const { at, history } = exchanged({ ...NOTHING_DONE, branches: [{ ...short, name: "short" }] }, { ...one, at: 5 }, 0);
-  expect("a shorter branch is shown", at, 2);
-  expect("what was shown is a branch", history.branches[0].name, "branch 1, left at request 5 for another branch");
 });
 
 test("runs are summed up", () => {

@@ -41,7 +41,7 @@ export class Page {
   /** Moves a slider. @param {string} name @param {number} value */
   slide(name, value) {
     const number = numbersOf(this.now.run).find((it) => it.name === name);
-    return this.act("change", number?.given(value), undefined, name);
+    return this.act("change", number?.given(value), name);
   }
 
   get sentence() {

@@ -5,6 +5,7 @@ import { readFileSync } from "node:fs";
 import { test } from "node:test";
 import { start } from "../../libagc/js/machine.js";
 import { readBench } from "../../web/bench.js";
+import { runWith } from "../../web/clock.js";
 import { whole } from "../../web/fields.js";
 import { moduleBytes } from "../../web/picture.mjs";
 import { Run } from "../../web/run.js";
@@ -60,17 +61,17 @@ test("sliders have names that tell them apart, and bounds of their own", () => {
     [`seed = 7\n${job("05000", "cost = 3")}${tick}`, [stolen, "05000 needs 1 400 3", sets]]])) {
     assert.deepEqual(sliders(text), wanted);
   }
-  assert.deepEqual(numbersOf(new Run(readBench(""))).map((it) => it.name), ["Stolen time"]);
-  const run = whole(`seconds = 2\n${twins}`);
+  assert.deepEqual(numbersOf(new Run(readBench(""))), []);
+  let run = whole(`seconds = 2\n${twins}`);
   const [, first] = numbersOf(run);
-  run.change(first.given(37), first.given(37));
+  run = runWith(run, first.given(37), 0);
   const [, , second] = numbersOf(run);
-  run.change(second.given(29), second.given(29));
+  run = runWith(run, second.given(29), 0);
   assert.match(differencesOf(run), /^This run differs from its document: .*WORK costs .*0[.]37 s \(document: 0[.]10 s\); WORK costs .*0[.]29 s \(document: 0[.]20 s\)\.$/);
   const urgent = numbersOf(run).find((it) => it.name === "WORK priority (05000)");
   run.bench = { ...run.bench, ...urgent?.given(31) };
   assert.deepEqual(run.bench.event[0].do, ["novac 20 04000 00005", "novac 37 05000 00005"]);
-  assert.match(differencesOf(run), /; WORK priority 31 \(document: 17\)\.$/);
+  assert.match(differencesOf(run), /; WORK priority 37 \(document: 21\)\.$/);
 });
 
 test("the field's words are told as docs/MODEL.md has them", () => {

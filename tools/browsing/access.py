@@ -203,7 +203,7 @@ def reach(browser, trial, told):
 STEPPED = """(() => {
   const places = () => Array.from(document.querySelectorAll(
     'h2, button[id], input, .boxes, .boxes li, canvas, #told, #hint')).map((it) => {
-    if (it.closest('#try, #told, dialog, .print-only, .sliders, #beside')) return '';
+    if (it.closest('#try, #told, dialog, .print-only, .sliders')) return '';
     const box = it.getBoundingClientRect();
     // (on a phone the story is as high as its text, and what is below it moves)
     if (innerWidth < 600 && box.top >= document.getElementById('story').getBoundingClientRect().bottom) return '';

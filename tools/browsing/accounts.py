@@ -41,8 +41,8 @@ def try_accounts(browser, trial):
     go_to(browser, "3")
     trial.same("NEWJOB", browser.value("document.getElementById('newjob').textContent"), "namesjob 2changed")
     sets = browser.shown()["sets"][:3]
-    trial.expect(f"{sets}", sets[0].split("\n") == ["set 0", "job 1", "runs, area 1", "at 04000", "priority 16"]
-                 and sets[1].split("\n")[:5] == ["set 1", "job 2", "next to run", "at 04100", "priority 24"] and sets[2] == "set 2\nfree")
+    trial.expect(f"{sets}", sets[0].split("\n") == ["set 0", "job 1", "runs, area 1", "at 04000", "priority 20"]
+                 and sets[1].split("\n")[:5] == ["set 1", "job 2", "next to run", "at 04100", "priority 30"] and sets[2] == "set 2\nfree")
     open_words(browser)
     words = browser.value("Array.from(document.querySelectorAll('#words-rows tr'), (it) => it.textContent)")
     for place, text in (11, "20300core set 0, PRIORITY"), (89, "00014NEWJOB"), (131, "00000FAILREG, latest"):
@@ -50,8 +50,8 @@ def try_accounts(browser, trial):
     browser.press("ArrowRight")
     browser.press("ArrowRight")
     told = browser.value("Array.from(document.querySelectorAll('#sets li'), (it) => `${it.className}: ${it.innerText}`).slice(0, 2)")
-    trial.expect(f"{told}", told[0].split("\n") == ["j4 runs new: set 0", "job 2", "runs", "at 04100", "priority 24", "changed"]
-                 and told[1].split("\n") == ["asleep h3 turns-over new: set 1", "job 1", "asleep, area 1", "at 06000", "priority 16", "changed"])
+    trial.expect(f"{told}", told[0].split("\n") == ["j4 runs new: set 0", "job 2", "runs", "at 04100", "priority 30", "changed"]
+                 and told[1].split("\n") == ["asleep h3 turns-over new: set 1", "job 1", "asleep, area 1", "at 06000", "priority 20", "changed"])
     trial.same("the words stay", browser.value("document.querySelector('#words-rows tr').textContent"), "000002core set 0, number")
     browser.value("document.getElementById('words-box').open = false")
 

@@ -26,6 +26,23 @@ def try_typing(browser, trial):
     browser.press("Escape")
 
 
+def try_undo(browser, trial):
+    """A request in the middle takes the place of what followed, which undo brings back."""
+    browser.press("ArrowLeft")
+    browser.press("i")
+    browser.write("end")
+    browser.press("Escape")
+    browser.value("document.getElementById('line').focus()")
+    browser.press("Enter")
+    browser.press("Escape")
+    says(browser, trial, "gone on", "Request 2 of 2, at 0.00 s: end. Reply: left idle.")
+    browser.press("u")
+    browser.press("r")
+    says(browser, trial, "done again", "Reply: left idle.")
+    browser.press("u")
+    says(browser, trial, "undone", "Request 1 of 2, at 0.00 s: findvac 30 02100 00005")
+
+
 def try_form(browser, trial):
     browser.value("Array.from(document.querySelectorAll('#common button'))"
                   ".find((it) => it.textContent.startsWith('list')).focus()")

@@ -86,7 +86,8 @@ def try_editing(browser, trial):
     trial.expect(f"the exercise, changed: {told}", told == (question, "How many ends are missing?", True))
     browser.click("exercise-again")
     told = texts(browser, "#asked pre"), saved(browser)[1]
-    trial.expect(f"the exercise again: {told}", told[0] == text.strip() and told[1].endswith("#exercise-4"))
+    script = re.sub(r'[",]', "", re.sub(r"(?m)^script = \[\n|^\]", "", text)).split()
+    trial.expect(f"the exercise again: {told}", told[0].replace(",", "").split() == script and told[1].endswith("#exercise-4"))
     browser.click("open")
     trial.expect("the question isn't kept", browser.value("document.getElementById('keep-question').checked"))
     browser.click("keep-question")

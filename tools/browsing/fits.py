@@ -62,11 +62,10 @@ def asked(browser, path):
     browser.press("Escape")
 
 
-def branched(browser, path):
+def asked_later(browser, path):
     at_alarm(browser, path)
     type_line(browser, "restart")
     browser.press("Escape")
-    browser.value("document.querySelector('#branches button:nth-of-type(2)').click()")
 
 
 VIEWS = {
@@ -81,7 +80,7 @@ VIEWS = {
     "exercise": lambda browser, path: browser.show(path, "#exercise-1"),
     "embedded": lambda browser, path: browser.show(path, "#landing-1202&at=3128&embed"),
     "asked": asked,
-    "branch": branched,
+    "asked later": asked_later,
     "damaged": lambda browser, path: browser.show(path, "#landing-1202&what=5"),
     "save": lambda browser, path: (browser.show(path, "#landing-1202"), browser.click("save")),
     "examples": lambda browser, path: (browser.show(path, "#new"), browser.click("examples")),

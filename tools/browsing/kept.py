@@ -21,8 +21,7 @@ def again(browser):
 
 
 def kept(browser, folder):
-    """F5, Back, Forward and a copied address bring back document, changes, row and zoom, an exercise with its question, and undo
-    and branches. A link that is damaged, cut, or names no exercise says so. Embedded, chart, tables and why stand alone."""
+    """F5, Back, Forward and a copied address bring back document, changes, row and zoom, and an exercise with its question. A link that is damaged, cut, or names no exercise says so. Embedded, chart, tables and why stand alone."""
     trial = Trial("kept")
     browser.width(*LAPTOP)
     path = save(folder, "kept", page_of(""))
@@ -36,15 +35,10 @@ def kept(browser, folder):
     trial.expect(f"the address: {mark}", mark.startswith("#landing-1202&do=") and "&at=" in mark and "&see=" in mark)
     again(browser)
     trial.expect(f"F5: {browser.value(STATE)}, not {before}", browser.value(STATE) == before)
-    browser.wait("!document.getElementById('undo').disabled")
-    trial.expect("no branches after F5", "stolen time was changed" in browser.text("branches"))
-    browser.press("u")
-    trial.expect(f"undone after F5: {browser.text('differs')}", "by hand" not in browser.text("differs") and "steal 5 %" in browser.text("differs"))
     browser.show(path, mark)
     trial.expect(f"a copied address: {browser.value(STATE)}", browser.value(STATE) == before)
     settled(browser)
-    trial.expect("undo and branches of another visit", browser.value(
-        "document.getElementById('undo').disabled && document.getElementById('branches-box').hidden"))
+    trial.expect("undo of another visit", browser.value("document.getElementById('undo').disabled"))
     browser.show(path, "#exercise-3")
     settled(browser)
     browser.click("show-answer")

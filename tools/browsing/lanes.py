@@ -113,7 +113,6 @@ def lanes(browser, folder):
     try_zoom(browser, trial, row)
     try_strips(browser, trial)
     try_arrow(browser, trial)
-    try_edges(browser, trial)
     try_cards(browser, trial)
     try_summary(browser, trial)
     for scheme in "light", "dark":
@@ -183,41 +182,6 @@ def try_arrow(browser, trial):
         counts.append(saved_picture(browser, "save-svg").count("READACCS → SERVICER"))
     trial.expect(f"arrows: {counts}", counts == [1, 0])
     trial.same("a picture of points", saved_picture(browser, "save-png"), "image/png")
-
-
-# Where the edge of this part of the budget is, which is the lowest band.
-EDGE = """((wanted, left, right) => {
-  const canvas = document.getElementById('lanes-chart');
-  canvas.scrollIntoView({ block: 'end' });
-  const { top, height } = canvas.getBoundingClientRect();
-  const told = (x, y) => {
-    canvas.dispatchEvent(new PointerEvent('pointermove', { clientX: x, clientY: y, pointerType: 'mouse', bubbles: true }));
-    return document.getElementById('block').textContent;
-  };
-  let y = top + height;
-  while (y > top && !/^SERVICER [0-9]+ % of the time/.test(told(left + 20, y))) y -= 3;
-  for (let x = left; x < right; x += 2) if (told(x, y).startsWith(wanted) && canvas.style.cursor === 'ew-resize') return [x + 4, y - 6];
-  return null;
-})"""
-
-
-def try_edges(browser, trial):
-    """The edges of the budget are dragged as the sliders are: a job's cost, and the time that is stolen. The budget stays where it is."""
-    open_landing(browser)
-    sliders = "['SERVICER needs', 'Stolen time'].map((it) => Number(document.querySelector(`#sliders input[aria-label='${it}']`).value))"
-    for k, (wanted, by) in enumerate((("SERVICER", -60), ("stolen", -30))):
-        before = browser.value(sliders)
-        left, right, *_ = browser.value(PLOT)
-        x, y = browser.value(f"{EDGE}({json.dumps(wanted)}, {left}, {right})")
-        below = y - browser.value(PLOT)[2]
-        for kind, to in ("mousePressed", x), ("mouseMoved", x + by / 2), ("mouseMoved", x + by), ("mouseReleased", x + by):
-            browser.call("Input.dispatchMouseEvent", type=kind, x=to, y=y, button="left", buttons=1, clickCount=1)
-            browser.value(DRAWN, True)
-        filled(browser)
-        after = browser.value(sliders)
-        moved = browser.value(f"{EDGE}({json.dumps(wanted)}, {left}, {right})")[1] - browser.value(PLOT)[2] - below
-        trial.expect(f"the budget moves by {moved} as {wanted} is dragged", abs(moved) <= 3)
-        trial.expect(f"the edge of {wanted}: {before} to {after}", after[k] < before[k] and after[1 - k] == before[1 - k])
 
 
 def try_cards(browser, trial):

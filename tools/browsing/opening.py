@@ -1,9 +1,10 @@
 """The first minute: the page opens on a landing, and a card tells what happens, up to a guess and what comes of it."""
 import os
+import re
 
 from browsing.browser import LAPTOP, PHONE, wait
 from browsing.opened import THREE_ALARMS
-from browsing.pages import DRAWN, PROGRAM, Trial, page_of, save, says, set_slider, set_speed, steady, texts, written
+from browsing.pages import DRAWN, PROGRAM, Trial, filled, page_of, save, says, set_slider, set_speed, steady, texts, type_line, written
 
 GUIDE = "document.getElementById('guide').hidden ? '' : `${document.getElementById('guide-step').textContent}. ${document.getElementById('guide-text').textContent}`"
 
@@ -71,6 +72,7 @@ def opening(browser, folder):
     browser.value("location.hash = '#landing'")
     trial.expect(f"a card of another landing: {browser.value(GUIDE)}", wait(lambda: browser.value(GUIDE) == ""))
     try_new(browser, trial)
+    try_built(browser, trial)
     try_written(browser, trial, folder)
     trial.expect(f"{browser.shown()['broken']}", not browser.shown()["broken"])
     return trial.faults
@@ -158,17 +160,43 @@ def try_remembered(browser, trial, path):
 
 
 def try_new(browser, trial):
-    """An empty machine: three requests to try, and its clock runs beyond ten seconds."""
+    """An empty machine: the form of jobs, and no octal; its tables unfold with a first request, and its clock runs beyond ten seconds."""
     browser.click("new")
-    trial.expect(browser.text("account"), "Nothing has been asked" in browser.text("account"))
-    told = texts(browser, "#try button")
-    trial.expect(f"to try: {told}", told.startswith("novac 20 04000 00005|findvac 30 04100 00005|list 100 02000 00005"))
-    trial.expect("what these do isn't said", "a job without a VAC area" in browser.text("account"))
-    browser.value("document.querySelector('#try button').click()")
-    says(browser, trial, "tried", "novac 20 04000 00005. Reply: job 1. Job 1 runs.")
+    seen = browser.value("['story', 'build', 'tables'].map((it) => document.getElementById(it).innerText).join(' ')")
+    trial.expect(seen, "Nothing has been asked" in seen and "deadline" in seen and not re.search(r"\b0[0-7]{4}\b|place 1", seen))
+    type_line(browser, "novac 20 04000 00005")
+    says(browser, trial, "asked", "novac 20 04000 00005. Reply: job 1. Job 1 runs.")
+    trial.expect("the tables are folded", browser.value("document.getElementById('more').open"))
     set_speed(browser, "100")
     browser.click("run")
     wait(lambda: int(browser.text("sentence").split()[1]) >= 1300)
     browser.click("run")
     said = browser.text("sentence")
     trial.expect(f"it runs on: {said}", "refused" not in said and int(said.split()[1]) > 1200)
+
+
+# Fills in the form of New.
+BUILD = """((name, every, needs, priority, deadline) => {
+  const fields = document.querySelectorAll('#build-fields input[type=text]');
+  [name, every, needs, deadline].forEach((it, k) => { fields[k].value = it; });
+  document.querySelector('#build-fields select').value = priority;
+  document.getElementById('build-add').click();
+})"""
+
+
+def try_built(browser, trial):
+    """Jobs are added by the form, whose list is that of the run: it says what a slider has made of them."""
+    browser.click("new")
+    for job in ("guidance", "2", "1.5", "20", "2"), ("steering", "1", "0.15", "10", "1"):
+        browser.value(f"{BUILD}(...{list(job)})")
+        filled(browser)
+    trial.same("the jobs", texts(browser, "#built li"), "guidance: every 2 s it needs 1.5 s, priority 20, deadline 2 s. Remove|"
+               "steering: every 1 s it needs 0.15 s, priority 10, deadline 1 s. Remove")
+    for name, value in ("guidance needs", 80), ("steering priority", 24), ("steering deadline", 90):
+        browser.value(f"(() => {{ const it = document.querySelector('#sliders input[aria-label=\"{name}\"]'); it.value = '{value}'; it.dispatchEvent(new Event('change')); }})()")
+        filled(browser)
+    trial.same("as sliders have made them", texts(browser, "#built li"), "guidance: every 2 s it needs 0.8 s, priority 20, deadline 2 s. Remove|"
+               "steering: every 1 s it needs 0.15 s, priority 30, deadline 0.9 s. Remove")
+    browser.value("document.querySelectorAll('#built button')[1].click()")
+    filled(browser)
+    trial.same("without the other", texts(browser, "#built li"), "guidance: every 2 s it needs 0.8 s, priority 20, deadline 2 s. Remove")

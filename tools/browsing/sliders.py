@@ -15,27 +15,20 @@ SLIDERS = """Array.from(document.querySelectorAll('#sliders label'), (it) => {
 
 
 def try_panel(browser, trial):
-    """Sliders with their bounds, how a slider looks as it moves, from when a change holds, the buttons of events, and a clock that
-    stops at an alarm."""
+    """Sliders with their bounds, how a slider looks as it moves, the buttons of events, and a clock that stops at an alarm."""
     open_text(browser, PANEL)
     told = browser.value(SLIDERS)
-    trial.expect(told, told == "Stolen time 0 100 50 50 % 50 %, WORK needs 1 400 10 0.10 s 0.10 s, 05000 needs 1 600 300 3.00 s 3.00 s, Core sets 7 8 7 7 7, WORK priority 1 31 16 16 16, 05000 priority 1 31 16 16 16")
+    trial.expect(told, told == "Stolen time 0 100 50 50 % 50 %, WORK needs 1 400 10 0.10 s 0.10 s, 05000 needs 1 600 300 3.00 s 3.00 s, Core sets 7 8 7 7 7, WORK priority 1 31 16 20 20, 05000 priority 1 31 16 20 20")
     for value in 37, 10:
         browser.value("(() => { const it = document.querySelectorAll('#sliders input')[1];"
                       f" it.value = '{value}'; it.dispatchEvent(new Event('input')); }})()")
         told = browser.value(SLIDERS)
         trial.expect(f"as a slider moves: {told}", f"WORK needs 1 400 {value} {value / 100:.2f} s {value / 100:.2f} s" in told)
-    browser.click("here")
-    for typed, wanted in ("0", "the beginning"), ("0.5 s", "0.50 s"), ("1", "request 1"):
-        go_to(browser, typed)
-        trial.expect(browser.text("since"), browser.text("since") == f"Sliders act from {wanted} on.")
-    browser.click("here")
-    trial.expect(browser.text("since"), browser.text("since") == "Sliders act from the beginning on.")
     browser.value("document.querySelector('#events button').click()")
     trial.expect(browser.text("account"), "Asked by you: begin." in browser.text("account"))
     open_text(browser, "script = [\"list 1 02000 00005\"]\n" + table(
         "task", at="02000", bank="00005", action=["novac 20 04000 00005", "list 1 02000 00005"]))
-    trial.expect("a bench has sliders for jobs", browser.value(SLIDERS) == "Stolen time 0 100 0 0 % 0 %")
+    trial.expect("a bench has sliders", browser.value("document.getElementById('clock').hidden"))
     browser.press("End")
     set_speed(browser, "100")
     browser.value("document.activeElement.blur()")
@@ -63,18 +56,18 @@ def try_asides(browser, trial):
 
 
 def try_percent(browser, trial):
-    """A number of the clock that is changed in an exercise shows what happens, and what the document has; the choice of its time is
-    there after the first row alone."""
+    """A number of the clock that is changed in an exercise shows what happens, and what the document has; and what came of it
+    moves no slider."""
     browser.show(browser.value("location.pathname"), "#exercise-10")
-    box = "document.getElementById('here-box').hidden"
-    trial.expect("a box at the first row", browser.value(box))
+    tops = "['#sliders input', '#slider'].map((it) => Math.round(document.querySelector(it).getBoundingClientRect().top + document.getElementById('side').scrollTop))"
     set_slider(browser, 23)
     told = browser.text("outcome"), texts(browser, "#differs")
     trial.expect(f"23 percent: {told}", told[0].startswith("Before: no alarm; ") and "Now: 1 alarm: 1201 at " in told[0]
                  and told[1] == "This run differs from its document: steal 23 % (document: 15 %).")
     trial.expect("what is changed is hidden", browser.value("document.getElementById('show-answer') === null"))
-    go_to(browser, "32 s")
-    trial.same("at 32 s", (browser.value(box), browser.value("document.getElementById('since-box').className")), (False, "since"))
-    browser.click("here")
-    trial.same("from 32 s on", browser.value("document.getElementById('since-box').className"), "since later")
-    browser.click("here")
+    browser.show(browser.value("location.pathname"), "#landing-1202")
+    before = browser.value(tops)
+    for value in 3, 30:
+        set_slider(browser, value)
+        moved = [abs(one - other) for one, other in zip(before, browser.value(tops))]
+        trial.expect(f"with {value} % sliders move by {moved}", max(moved) <= 6)

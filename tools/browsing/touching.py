@@ -106,7 +106,7 @@ SAY = """(() => { const fields = [...document.querySelectorAll('#prediction inpu
 
 
 def try_predictions(browser, trial):
-    """A first wrong try gets a hint, and shows no answer; a second one shows all, and leads to the row; Next leads on."""
+    """A wrong try gets a hint, and none gives an answer away; who asks for the answers is led to the row; Next leads on."""
     say = lambda *given: browser.value(SAY.replace("GIVEN", json.dumps(given)))
     exercise(browser, 1)
     trial.expect(browser.text("which"), browser.text("which") == "Exercise 1 of 15")
@@ -116,6 +116,9 @@ def try_predictions(browser, trial):
     marks = browser.value("Array.from(document.querySelectorAll('#prediction label'), (it) => it.querySelector('span')?.textContent)")
     trial.expect(f"the marks of a first try: {marks}", marks == ["\u2713 right", "not yet"])
     say("12", "1203")
+    told = browser.text("hint-given"), texts(browser, "#verdict li"), browser.value("document.getElementById('show-answer') !== null")
+    trial.expect(f"a second try gives the answer away: {told}", told[0].startswith("Not yet: Which alarm?") and "1201" not in told[0] and told[1:] == ("", True))
+    browser.click("show-answer")
     told = texts(browser, "#verdict li")
     trial.expect(told, told == "Which request is one too many? Right: 12.|Which alarm? You expected “1203”, and it is: 1201. See request 12.")
     browser.value("document.querySelector('#verdict a').click()")

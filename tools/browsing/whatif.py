@@ -11,7 +11,7 @@ IN_VIEW = """['run', 'speed', 'state', ...(innerWidth > 900 ? ['sliders', 'told-
 
 
 def whatif(browser, folder):
-    """A bar with Run, speed and state stays in view, and beside it the story and the sliders. A slider asks from the beginning, or from here on, and one line
+    """A bar with Run, speed and state stays in view, and beside it the story and the sliders. A slider runs the document anew, and one line
     says in full how the run differs from its document."""
     trial = Trial("whatif")
     path = save(folder, "whatif", page_of(""))
@@ -78,17 +78,18 @@ def try_jobs(browser, trial):
     browser.wait("!document.getElementById('jobs-box').hidden")
     trial.same("the jobs", browser.value("Array.from(document.querySelectorAll('#jobs tr'), (it) => it.children[0].innerText.trim())"), ["fast", "slow", "and stolen 10 %"])
     said = browser.text("jobs-sum"), browser.value("document.getElementById('jobs-box').open")
-    trial.expect(f"{said}", re.fullmatch(r"Jobs in 20 s: fast 40 % \+ slow 63 % \+ stolen 10 % = 113 %; \d+ deadlines missed", said[0]) and said[1])
+    trial.expect(f"{said}", re.fullmatch(r"Jobs, in all: fast 40 % \+ slow 63 % \+ stolen 10 % = 113 %; \d+ deadlines missed in 20 s", said[0]) and said[1])
     browser.value("document.querySelector('#jobs button').click()")
     # (the first slow job begins at 0.01 s, and has 1.50 s)
     says(browser, trial, "the first that is missed", "at 1.52 s: tick.")
     trial.expect("priorities are folded where jobs have deadlines", browser.value("document.querySelector('#sliders details').open"))
-    browser.value("Array.from(document.querySelectorAll('.over')).at(-1).click()")
+    trial.same("what would help", browser.text("jobs-order"), "No order of priorities helps: if all jobs are asked for at once, with each order one is late.")
+    browser.value("Array.from(document.querySelectorAll('#sliders details')[0].querySelectorAll('.over')).at(-1).click()")
     browser.wait("Array.from(document.querySelectorAll('.strip')).at(-1).dataset.done === 'yes'")
     # (from the fast job's priority on, 24, the fast ones are those that pile up)
     named = browser.value("Array.from(document.querySelectorAll('.strip')).at(-1).ariaLabel")
-    trial.same("the slow job's priority", named, "When the first alarm comes, over slow priority: no alarm up to 23, misses with each value. "
-               "At 8: first missed deadline 1.51 s (slow); no alarm")
+    trial.same("the slow job's priority", named, "When the first alarm comes, over slow priority: no alarm up to 27, misses with each value. "
+               "At 10: first missed deadline 1.51 s (slow); no alarm")
     exercise(browser, 10)
     trial.expect("an exercise's jobs are told", browser.value("document.getElementById('jobs-box').hidden"))
     browser.show(browser.value("location.pathname"), "#landing-1202")
