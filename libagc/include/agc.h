@@ -2,8 +2,8 @@
  * agc.h: the job tables of the Apollo Guidance Computer, Block II, on an array of your own.
  *
  * agc_step does one request, with all that follows from it, by a plan of your own: tasks fire, and
- * after an alarm the era begins anew. Below it are the single calls of the Executive (jobs), the
- * Waitlist (tasks) and the phase tables. Each is proved to do what it says. docs/embedding/C.md has a
+ * after an alarm the era begins anew. agc_call does one request on the tables alone, for those who
+ * write the machine around them. Each call is proved to do what it says. docs/embedding/C.md has a
  * first program, docs/MODEL.md what each call means.
  *
  * THE IMAGE. `words` is an array of AGC_WORDS numbers that you own: the words of the tables, each
@@ -14,8 +14,7 @@
  * OWNERSHIP. A call keeps no pointer: it is done with the array as it returns. The library takes no
  * memory, has no global state, opens nothing and calls back nothing.
  *
- * POINTERS. `words` must point to AGC_WORDS numbers of uint16_t (agc_recover: AGC_PHASE_WORDS),
- * aligned as uint16_t is, and not be null: agc_pointer tells. No other array may share them. A list of
+ * POINTERS. `words` must point to AGC_WORDS numbers of uint16_t, aligned as uint16_t is, and not be null: agc_pointer tells. No other array may share them. A list of
  * a plan, a timetable or a pulse may be null where its count is 0; every other pointer must point to
  * what its type says, aligned as that is.
  *
@@ -37,8 +36,8 @@
  * the first number stays, and no struct its size.
  *
  * TRUSTED. agc_NAME looks at the whole image before it does anything, which takes longer than a step
- * itself. agc_NAME_trusted, which steps, eras and clocks have, doesn't. Its condition: the array is as an earlier call with this
- * number of sets left it. That is one of: agc_clear, agc_restart or any other call on a `words` that
+ * itself. agc_NAME_trusted, which steps and clocks have, doesn't. Its condition: the array is as an
+ * earlier call with this number of sets left it. That is one of: agc_clear, agc_call or any other call on a `words` that
  * isn't const, with AGC_OK; agc_check with AGC_OK; agc_migrate with AGC_OK, for 8 sets. And nobody
  * wrote to the array since, nor changed the number of sets. It is proved that this suffices: after
  * AGC_OK the array has a lawful image again. Where the condition isn't met, anything may happen.
@@ -82,7 +81,7 @@ enum {
     AGC_LAST_SET = 132
 };
 
-/* How many numbers an array has, how many agc_recover wants, and the place of -PHASE1, their first. */
+/* How many numbers an array has, how many phase words there are, and the place of -PHASE1, their first. */
 enum { AGC_WORDS = 144, AGC_PHASE_WORDS = 12, AGC_PHASE_PLACE = 117 };
 
 /* How many tasks fire in a step at most, and how many actions a row of a plan has. */
@@ -100,7 +99,7 @@ enum {
     AGC_OK = 0,           /* the call was served */
     AGC_NO_SUCH_SETS = 1, /* the number of core sets is neither 7 nor 8 */
     AGC_NOT_WORDS = 2,    /* a number of the image is above 077777 */
-    AGC_UNLAWFUL = 3,     /* the image isn't lawful; agc_recover: the phase words don't agree */
+    AGC_UNLAWFUL = 3,     /* the image isn't lawful */
     AGC_OUT_OF_RANGE = 4, /* a number of the call is out of its range */
     AGC_NOT_A_WORD = 5,   /* a word of the call is above 077777 */
     AGC_NOT_NOW = 6,      /* a task is due, or at agc_dispatch none is */
@@ -236,15 +235,15 @@ typedef struct { uint32_t code, at, bank; } AgcTask;
 /* A job in a core set: its number, 0 where the set is free; its priority; where it begins, or at which
    address it sleeps; the word for its bank; its VAC area, 1 to 5, or 0; whether it sleeps; and its six
    work words. */
-AGC_TYPE struct { uint32_t code, number, priority, at, bank, area; bool asleep; uint16_t work[6]; } AgcJob;
+AGC_TYPE struct { uint32_t number, priority, at, bank, area; bool asleep; uint16_t work[6]; } AgcJob;
 
 /* A task that waits, and the centiseconds that are left to it. Its address is 0 where there is none. */
-typedef struct { uint32_t code, at, bank, left; } AgcWaiting;
+typedef struct { uint32_t at, bank, left; } AgcWaiting;
 
 /* All that the tables hold: the numbers of the job that runs and of that which NEWJOB names, 0 for none;
    the jobs in the core sets, no job beyond the last set; the numbers of the jobs that own VAC areas 1 to
    5; the tasks that wait, as they come due, no task after the last; FAILREG; and the phases of groups 1
-   to 6. Each code is AGC_OK. */
+   to 6. */
 typedef struct {
     uint32_t running, next;
     AgcJob sets[8];
@@ -258,15 +257,6 @@ typedef struct {
    there, and what would have to, or AGC_ANY where the other words leave more than one choice. */
 typedef struct { uint32_t code, rule, place, found, wanted; } AgcFinding;
 enum { AGC_ANY = 65535 };
-
-/* The phases of groups 1 to 6. */
-typedef struct { uint32_t code; uint8_t phases[6]; } AgcPhases;
-
-/* A sum of two words, and whether it overflows. */
-AGC_TYPE struct { uint32_t code, bits; bool overflow; } AgcSum;
-
-/* The value of a word, -16383 to 16383. */
-typedef struct { uint32_t code; int32_t value; } AgcValue;
 
 /* A request: its kind, and its numbers. Those that its kind doesn't have aren't looked at. */
 typedef struct { uint32_t kind, first, second, third; } AgcRequest;
@@ -296,7 +286,7 @@ typedef struct { uint64_t served, allowance; uint32_t logged, limit; } AgcBounds
 
 /* An entry of a plan: what begins again while a restart group, 1 to 6, stands in a phase, 1 to 127.
    A job, where `job` isn't 0, and a task, where `delay` isn't 0; their numbers are those of the
-   calls agc_novac, agc_findvac and agc_list. */
+   requests. */
 typedef struct {
     uint32_t group, phase;
     uint32_t job, priority, job_at, job_bank;
@@ -360,7 +350,7 @@ AGC_INLINE const char *agc_code_text(uint32_t code) {
     case AGC_OK: return "the call was served";
     case AGC_NO_SUCH_SETS: return "the number of core sets is neither 7 nor 8";
     case AGC_NOT_WORDS: return "a number of the image is above 077777";
-    case AGC_UNLAWFUL: return "the image isn't lawful, or the phase words don't agree";
+    case AGC_UNLAWFUL: return "the image isn't lawful";
     case AGC_OUT_OF_RANGE: return "a number of the call is out of its range";
     case AGC_NOT_A_WORD: return "a word of the call is above 077777";
     case AGC_NOT_NOW: return "a task is due, or none is where one has to be";
@@ -481,21 +471,16 @@ AGC_USED AgcStep agc_step_trusted(uint16_t words[AGC_WORDS], uint32_t sets, cons
    groups 1 to 6 in order the plan's entry for the group's phase begins, its job and then its task.
    `alarm` is one of the four, or 0 where none is recorded, as at a restart by request. A group of
    phase 0, or of one that has no entry, begins nothing. AGC_OUT_OF_RANGE is that of the alarm; the
-   codes of agc_plan_check are those of the entries, at which the trusted form doesn't look. */
+   codes of agc_plan_check are those of the entries. */
 AGC_USED uint32_t agc_begin(uint16_t words[AGC_WORDS], uint32_t sets, uint32_t alarm, const AgcPhaseEntry *entries,
                    size_t entry_count);
-AGC_USED uint32_t agc_begin_trusted(uint16_t words[AGC_WORDS], uint32_t sets, uint32_t alarm, const AgcPhaseEntry *entries,
-                           size_t entry_count);
 
 /* Power comes back with these phase words, -PHASE1 first, whatever stood in the array: an era begins
    with the phases that they tell and no codes, and the number is 0. Where they don't agree it is a
    fresh start with code 01107, and the number is AGC_ALARM_1107. AGC_NO_SUCH_SETS; AGC_NOT_WORDS where
-   a phase word is above 077777; the codes of agc_plan_check for the entries, at which the trusted form
-   doesn't look. */
+   a phase word is above 077777; the codes of agc_plan_check for the entries. */
 AGC_USED AgcNumber agc_power_up(uint16_t words[AGC_WORDS], uint32_t sets, const AgcPhaseEntry *entries, size_t entry_count,
                        const uint16_t phase_words[AGC_PHASE_WORDS]);
-AGC_USED AgcNumber agc_power_up_trusted(uint16_t words[AGC_WORDS], uint32_t sets, const AgcPhaseEntry *entries,
-                               size_t entry_count, const uint16_t phase_words[AGC_PHASE_WORDS]);
 
 /* The request that a line of a script spells, of so many bytes, without the line's end: AGC_OK, or
    AGC_NOT_SPELLED, and then *request stays. Numbers that the kind doesn't have become 0.
@@ -568,102 +553,27 @@ AGC_USED AgcTruth agc_check(const uint16_t words[AGC_WORDS], uint32_t sets);
    AGC_UNLAWFUL, the first rule that is broken, where, what stands there and what would have to. */
 AGC_USED AgcFinding agc_explain(const uint16_t words[AGC_WORDS], uint32_t sets);
 
-/* The job in a core set, 0 to 6, or 7 of eight. */
-AGC_USED AgcJob agc_job_at(const uint16_t words[AGC_WORDS], uint32_t sets, uint32_t set);
-
-/* The number of the job that NEWJOB names, which a change of job would let run; 0 for none. */
-AGC_USED AgcNumber agc_next(const uint16_t words[AGC_WORDS], uint32_t sets);
-
-/* The task that comes due first (place 0), second, .. of those that wait, up to place AGC_TASKS - 1. */
-AGC_USED AgcWaiting agc_task_at(const uint16_t words[AGC_WORDS], uint32_t sets, uint32_t place);
-
-/* The phase, 0 to 127, of a restart group, 1 to 6. */
-AGC_USED AgcNumber agc_phase_at(const uint16_t words[AGC_WORDS], uint32_t sets, uint32_t group);
-
-/* FAILREG: the first (place 0), the second (1) or the latest code (2); 0 where there is none. */
-AGC_USED AgcNumber agc_failreg(const uint16_t words[AGC_WORDS], uint32_t sets, uint32_t place);
-
-/* All of these at once. Answers the code; *scene stays if it isn't AGC_OK. */
+/* All that the tables hold. Answers the code; *scene stays if it isn't AGC_OK. */
 AGC_USED uint32_t agc_scene(const uint16_t words[AGC_WORDS], uint32_t sets, AgcScene *scene);
-
-/* The number of the job that owns a VAC area, 1 to 5; 0 where no job does. */
-AGC_INLINE AGC_USED AgcNumber agc_area_at(const uint16_t words[AGC_WORDS], uint32_t sets, uint32_t area) {
-    AgcNumber found = {AGC_OK, 0};
-    uint32_t set;
-    for (set = 0; set == 0 || set < sets; set++) {
-        AgcJob job = agc_job_at(words, sets, set);
-        found.code = job.code;
-        if (found.code == AGC_OK && (area < 1 || area > AGC_AREAS)) found.code = AGC_OUT_OF_RANGE;
-        if (found.code != AGC_OK) break;
-        if (job.area == area) found.number = job.number;
-    }
-    return found;
-}
 
 /* The library's release: 10000 times its first number, 100 times its second, and its third. */
 AGC_USED uint32_t agc_version(void);
-
-/* A software restart, without what the phases begin again: no jobs, no tasks; phases and codes stay. */
-AGC_USED uint32_t agc_restart(uint16_t words[AGC_WORDS], uint32_t sets);
 
 /* An image of seven core sets becomes one of eight. AGC_NOT_NOW where a task is due. The words don't
    tell whether they are of eight already: then the job in core set 7 is lost. */
 AGC_USED uint32_t agc_migrate(uint16_t words[AGC_WORDS]);
 
-/* NOVAC, FINDVAC: a job of this priority, 1 to 31, at this address, 1 to 16383, in this bank, a word.
-   AGC_ESTABLISHED, or AGC_ALARMED with AGC_ALARM_1202, FINDVAC also with AGC_ALARM_1201. */
-AGC_USED AgcReply agc_novac(uint16_t words[AGC_WORDS], uint32_t sets, uint32_t priority, uint32_t at, uint32_t bank);
-AGC_USED AgcReply agc_findvac(uint16_t words[AGC_WORDS], uint32_t sets, uint32_t priority, uint32_t at, uint32_t bank);
-
-/* End of job. AGC_LEFT, AGC_IDLE or AGC_NO_JOB. */
-AGC_USED AgcReply agc_end_of_job(uint16_t words[AGC_WORDS], uint32_t sets);
-
-/* JOBSLEEP: until this address, 1 to 16383, is called. AGC_LEFT, AGC_IDLE or AGC_NO_JOB. */
-AGC_USED AgcReply agc_job_sleep(uint16_t words[AGC_WORDS], uint32_t sets, uint32_t at);
-
-/* JOBWAKE: the least-numbered sleeper of this address, 1 to 16383. AGC_ROUSED or AGC_NO_SLEEPER. */
-AGC_USED AgcReply agc_job_wake(uint16_t words[AGC_WORDS], uint32_t sets, uint32_t at);
-
-/* PRIOCHNG: the running job's priority, 1 to 31. AGC_RUNS or AGC_NO_JOB. */
-AGC_USED AgcReply agc_prio_change(uint16_t words[AGC_WORDS], uint32_t sets, uint32_t priority);
-
-/* Change of job, to what NEWJOB names. AGC_RUNS or AGC_NO_JOB. */
-AGC_USED AgcReply agc_change_job(uint16_t words[AGC_WORDS], uint32_t sets);
-
-/* Work word 1 to 6 of the running job, MPAC+1 to MPAC+6. AGC_STORED or AGC_NO_JOB. */
-AGC_USED AgcReply agc_store(uint16_t words[AGC_WORDS], uint32_t sets, uint32_t place, uint32_t word);
-
-/* The number of the running job, 0 where no job is running. */
-AGC_USED AgcNumber agc_running(const uint16_t words[AGC_WORDS], uint32_t sets);
-
-/* WAITLIST: a task due in so many centiseconds, 1 to 16250, at this address, 1 to 16383, in this bank,
-   a word. AGC_LISTED, or AGC_ALARMED with AGC_ALARM_1203. */
-AGC_USED AgcReply agc_list(uint16_t words[AGC_WORDS], uint32_t sets, uint32_t delay, uint32_t at, uint32_t bank);
-
-/* A centisecond passes; true where a task is due then. AGC_NOT_NOW where one is due before it. A tick
-   is this call, and then agc_dispatch as long as agc_due answers true. */
-AGC_USED AgcTruth agc_count_time3(uint16_t words[AGC_WORDS], uint32_t sets);
-
-/* Whether a task is due now. */
-AGC_USED AgcTruth agc_due(const uint16_t words[AGC_WORDS], uint32_t sets);
+/* One request on the tables alone: at an alarm the tables stay as they are, and no era begins. Code and
+   reply are as of a step, except: AGC_TICK counts TIME3, AGC_NOT_NOW is for it alone, where a task is due
+   before it, and a tick is this call and then agc_dispatch until that answers AGC_NOT_NOW; AGC_RESTART
+   takes out all jobs and tasks, and phases and codes stay; AGC_FRESH takes these out, too. */
+AGC_USED AgcReply agc_call(uint16_t words[AGC_WORDS], uint32_t sets, const AgcRequest *request);
 
 /* Takes out a task that is due: of these the earliest arrival. AGC_NOT_NOW where none is due. */
 AGC_USED AgcTask agc_dispatch(uint16_t words[AGC_WORDS], uint32_t sets);
 
-/* The phase, 0 to 127, of a restart group, 1 to 6. */
-AGC_USED uint32_t agc_set_phase(uint16_t words[AGC_WORDS], uint32_t sets, uint32_t group, uint32_t phase);
-
 /* Adds one of the four alarms to FAILREG. */
 AGC_USED uint32_t agc_record_alarm(uint16_t words[AGC_WORDS], uint32_t sets, uint32_t alarm);
-
-/* The phases that twelve phase words tell, as found when power comes back, -PHASE1 first. AGC_NOT_WORDS,
-   or AGC_UNLAWFUL where a pair's words aren't complements of each other, or a phase is above 127. */
-AGC_USED AgcPhases agc_recover(const uint16_t words[AGC_PHASE_WORDS]);
-
-/* Arithmetic on words in ones' complement: the sum, the negative, the value. AGC_OK or AGC_NOT_A_WORD. */
-AGC_USED AgcSum agc_add(uint32_t a, uint32_t b);
-AGC_USED AgcNumber agc_negative(uint32_t word);
-AGC_USED AgcValue agc_value(uint32_t word);
 
 #undef AGC_INLINE
 #undef AGC_TYPE

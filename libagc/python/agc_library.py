@@ -124,7 +124,7 @@ CODE_TEXTS: Dict[int, str] = {
     Code.OK: "the call was served",
     Code.NO_SUCH_SETS: "the number of core sets is neither 7 nor 8",
     Code.NOT_WORDS: "a number of the image is above 077777",
-    Code.UNLAWFUL: "the image isn't lawful, or the phase words don't agree",
+    Code.UNLAWFUL: "the image isn't lawful",
     Code.OUT_OF_RANGE: "a number of the call is out of its range",
     Code.NOT_A_WORD: "a word of the call is above 077777",
     Code.NOT_NOW: "a task is due, or none is where one has to be",
@@ -211,7 +211,6 @@ class AgcJob(Structure):
     address it sleeps; the word for its bank; its VAC area, 1 to 5, or 0; whether it sleeps; and its six work
     words."""
 
-    code: int
     number: int
     priority: int
     at: int
@@ -220,28 +219,26 @@ class AgcJob(Structure):
     asleep: bool
     work: ctypes.Array[c_uint16]
     _fields_ = [
-        ("code", c_uint32), ("number", c_uint32), ("priority", c_uint32), ("at", c_uint32),
-        ("bank", c_uint32), ("area", c_uint32), ("asleep", c_bool), ("work", c_uint16 * 6),
+        ("number", c_uint32), ("priority", c_uint32), ("at", c_uint32), ("bank", c_uint32),
+        ("area", c_uint32), ("asleep", c_bool), ("work", c_uint16 * 6),
     ]
 
 
 class AgcWaiting(Structure):
     """A task that waits, and the centiseconds that are left to it. Its address is 0 where there is none."""
 
-    code: int
     at: int
     bank: int
     left: int
     _fields_ = [
-        ("code", c_uint32), ("at", c_uint32), ("bank", c_uint32), ("left", c_uint32),
+        ("at", c_uint32), ("bank", c_uint32), ("left", c_uint32),
     ]
 
 
 class AgcScene(Structure):
     """All that the tables hold: the numbers of the job that runs and of that which NEWJOB names, 0 for none; the
     jobs in the core sets, no job beyond the last set; the numbers of the jobs that own VAC areas 1 to 5; the
-    tasks that wait, as they come due, no task after the last; FAILREG; and the phases of groups 1 to 6. Each
-    code is OK."""
+    tasks that wait, as they come due, no task after the last; FAILREG; and the phases of groups 1 to 6."""
 
     running: int
     next: int
@@ -268,37 +265,6 @@ class AgcFinding(Structure):
     _fields_ = [
         ("code", c_uint32), ("rule", c_uint32), ("place", c_uint32), ("found", c_uint32),
         ("wanted", c_uint32),
-    ]
-
-
-class AgcPhases(Structure):
-    """The phases of groups 1 to 6."""
-
-    code: int
-    phases: ctypes.Array[c_uint8]
-    _fields_ = [
-        ("code", c_uint32), ("phases", c_uint8 * 6),
-    ]
-
-
-class AgcSum(Structure):
-    """A sum of two words, and whether it overflows."""
-
-    code: int
-    bits: int
-    overflow: bool
-    _fields_ = [
-        ("code", c_uint32), ("bits", c_uint32), ("overflow", c_bool),
-    ]
-
-
-class AgcValue(Structure):
-    """The value of a word, -16383 to 16383."""
-
-    code: int
-    value: int
-    _fields_ = [
-        ("code", c_uint32), ("value", c_int32),
     ]
 
 
@@ -381,8 +347,7 @@ class AgcBounds(Structure):
 
 class AgcPhaseEntry(Structure):
     """An entry of a plan: what begins again while a restart group, 1 to 6, stands in a phase, 1 to 127. A job,
-    where `job` isn't 0, and a task, where `delay` isn't 0; their numbers are those of the calls agc_novac,
-    agc_findvac and agc_list."""
+    where `job` isn't 0, and a task, where `delay` isn't 0; their numbers are those of the requests."""
 
     group: int
     phase: int
@@ -514,9 +479,7 @@ CALLS: Dict[str, Tuple[List[Any], Any]] = {
     "agc_step": ([POINTER(c_uint16), c_uint32, POINTER(AgcPlan), POINTER(AgcRequest), POINTER(AgcFired), POINTER(c_uint16)], AgcStep),
     "agc_step_trusted": ([POINTER(c_uint16), c_uint32, POINTER(AgcPlan), POINTER(AgcRequest), POINTER(AgcFired), POINTER(c_uint16)], AgcStep),
     "agc_begin": ([POINTER(c_uint16), c_uint32, c_uint32, POINTER(AgcPhaseEntry), c_size_t], c_uint32),
-    "agc_begin_trusted": ([POINTER(c_uint16), c_uint32, c_uint32, POINTER(AgcPhaseEntry), c_size_t], c_uint32),
     "agc_power_up": ([POINTER(c_uint16), c_uint32, POINTER(AgcPhaseEntry), c_size_t, POINTER(c_uint16)], AgcNumber),
-    "agc_power_up_trusted": ([POINTER(c_uint16), c_uint32, POINTER(AgcPhaseEntry), c_size_t, POINTER(c_uint16)], AgcNumber),
     "agc_read_request": ([c_char_p, c_size_t, POINTER(AgcRequest)], c_uint32),
     "agc_read_action": ([c_char_p, c_size_t, POINTER(AgcRequest)], c_uint32),
     "agc_write_reply": ([POINTER(AgcStep), POINTER(AgcFired), c_char_p, c_size_t], AgcNumber),
@@ -533,34 +496,12 @@ CALLS: Dict[str, Tuple[List[Any], Any]] = {
     "agc_clear": ([POINTER(c_uint16), c_uint32], c_uint32),
     "agc_check": ([POINTER(c_uint16), c_uint32], AgcTruth),
     "agc_explain": ([POINTER(c_uint16), c_uint32], AgcFinding),
-    "agc_job_at": ([POINTER(c_uint16), c_uint32, c_uint32], AgcJob),
-    "agc_next": ([POINTER(c_uint16), c_uint32], AgcNumber),
-    "agc_task_at": ([POINTER(c_uint16), c_uint32, c_uint32], AgcWaiting),
-    "agc_phase_at": ([POINTER(c_uint16), c_uint32, c_uint32], AgcNumber),
-    "agc_failreg": ([POINTER(c_uint16), c_uint32, c_uint32], AgcNumber),
     "agc_scene": ([POINTER(c_uint16), c_uint32, POINTER(AgcScene)], c_uint32),
     "agc_version": ([], c_uint32),
-    "agc_restart": ([POINTER(c_uint16), c_uint32], c_uint32),
     "agc_migrate": ([POINTER(c_uint16)], c_uint32),
-    "agc_novac": ([POINTER(c_uint16), c_uint32, c_uint32, c_uint32, c_uint32], AgcReply),
-    "agc_findvac": ([POINTER(c_uint16), c_uint32, c_uint32, c_uint32, c_uint32], AgcReply),
-    "agc_end_of_job": ([POINTER(c_uint16), c_uint32], AgcReply),
-    "agc_job_sleep": ([POINTER(c_uint16), c_uint32, c_uint32], AgcReply),
-    "agc_job_wake": ([POINTER(c_uint16), c_uint32, c_uint32], AgcReply),
-    "agc_prio_change": ([POINTER(c_uint16), c_uint32, c_uint32], AgcReply),
-    "agc_change_job": ([POINTER(c_uint16), c_uint32], AgcReply),
-    "agc_store": ([POINTER(c_uint16), c_uint32, c_uint32, c_uint32], AgcReply),
-    "agc_running": ([POINTER(c_uint16), c_uint32], AgcNumber),
-    "agc_list": ([POINTER(c_uint16), c_uint32, c_uint32, c_uint32, c_uint32], AgcReply),
-    "agc_count_time3": ([POINTER(c_uint16), c_uint32], AgcTruth),
-    "agc_due": ([POINTER(c_uint16), c_uint32], AgcTruth),
+    "agc_call": ([POINTER(c_uint16), c_uint32, POINTER(AgcRequest)], AgcReply),
     "agc_dispatch": ([POINTER(c_uint16), c_uint32], AgcTask),
-    "agc_set_phase": ([POINTER(c_uint16), c_uint32, c_uint32, c_uint32], c_uint32),
     "agc_record_alarm": ([POINTER(c_uint16), c_uint32, c_uint32], c_uint32),
-    "agc_recover": ([POINTER(c_uint16)], AgcPhases),
-    "agc_add": ([c_uint32, c_uint32], AgcSum),
-    "agc_negative": ([c_uint32], AgcNumber),
-    "agc_value": ([c_uint32], AgcValue),
 }
 
 

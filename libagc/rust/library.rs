@@ -51,7 +51,7 @@ pub enum Code {
     NoSuchSets = 1,
     /// A number of the image is above 077777.
     NotWords = 2,
-    /// The image isn't lawful; agc_recover: the phase words don't agree.
+    /// The image isn't lawful.
     Unlawful = 3,
     /// A number of the call is out of its range.
     OutOfRange = 4,
@@ -93,7 +93,7 @@ impl Code {
             Code::Ok => "the call was served",
             Code::NoSuchSets => "the number of core sets is neither 7 nor 8",
             Code::NotWords => "a number of the image is above 077777",
-            Code::Unlawful => "the image isn't lawful, or the phase words don't agree",
+            Code::Unlawful => "the image isn't lawful",
             Code::OutOfRange => "a number of the call is out of its range",
             Code::NotAWord => "a word of the call is above 077777",
             Code::NotNow => "a task is due, or none is where one has to be",
@@ -408,7 +408,6 @@ pub struct AgcTask {
 #[repr(C)]
 #[derive(Clone, Copy, Debug, Default, PartialEq, Eq)]
 pub struct AgcJob {
-    pub code: Code,
     pub number: u32,
     pub priority: u32,
     pub at: u32,
@@ -423,7 +422,6 @@ pub struct AgcJob {
 #[repr(C)]
 #[derive(Clone, Copy, Debug, Default, PartialEq, Eq)]
 pub struct AgcWaiting {
-    pub code: Code,
     pub at: u32,
     pub bank: u32,
     pub left: u32,
@@ -432,7 +430,7 @@ pub struct AgcWaiting {
 /// All that the tables hold: the numbers of the job that runs and of that which NEWJOB names, 0
 /// for none; the jobs in the core sets, no job beyond the last set; the numbers of the jobs that
 /// own VAC areas 1 to 5; the tasks that wait, as they come due, no task after the last; FAILREG;
-/// and the phases of groups 1 to 6. Each code is OK.
+/// and the phases of groups 1 to 6.
 #[repr(C)]
 #[derive(Clone, Copy, Debug, Default, PartialEq, Eq)]
 pub struct AgcScene {
@@ -455,31 +453,6 @@ pub struct AgcFinding {
     pub place: u32,
     pub found: u32,
     pub wanted: u32,
-}
-
-/// The phases of groups 1 to 6.
-#[repr(C)]
-#[derive(Clone, Copy, Debug, Default, PartialEq, Eq)]
-pub struct AgcPhases {
-    pub code: Code,
-    pub phases: [u8; 6],
-}
-
-/// A sum of two words, and whether it overflows.
-#[repr(C)]
-#[derive(Clone, Copy, Debug, Default, PartialEq, Eq)]
-pub struct AgcSum {
-    pub code: Code,
-    pub bits: u32,
-    pub overflow: bool,
-}
-
-/// The value of a word, -16383 to 16383.
-#[repr(C)]
-#[derive(Clone, Copy, Debug, Default, PartialEq, Eq)]
-pub struct AgcValue {
-    pub code: Code,
-    pub value: i32,
 }
 
 /// A request: its kind, and its numbers. Those that its kind doesn't have aren't looked at.
@@ -548,7 +521,7 @@ pub struct AgcBounds {
 
 /// An entry of a plan: what begins again while a restart group, 1 to 6, stands in a phase, 1 to
 /// 127. A job, where `job` isn't 0, and a task, where `delay` isn't 0; their numbers are those of
-/// the calls agc_novac, agc_findvac and agc_list.
+/// the requests.
 #[repr(C)]
 #[derive(Clone, Copy, Debug, Default, PartialEq, Eq)]
 pub struct AgcPhaseEntry {
@@ -676,8 +649,7 @@ pub struct AgcClock {
 /// for groups 1 to 6 in order the plan's entry for the group's phase begins, its job and then its
 /// task. `alarm` is one of the four, or 0 where none is recorded, as at a restart by request. A
 /// group of phase 0, or of one that has no entry, begins nothing. OUT_OF_RANGE is that of the
-/// alarm; the codes of agc_plan_check are those of the entries, at which the trusted form doesn't
-/// look.
+/// alarm; the codes of agc_plan_check are those of the entries.
 pub fn agc_begin(words: &mut [u16; WORDS], sets: u32, alarm: u32, entries: &[AgcPhaseEntry]) -> Code {
     // SAFETY: what is lent outlives the call, which is told how much it is.
     unsafe { raw::agc_begin(words, sets, alarm, entries.as_ptr(), entries.len()) }
@@ -686,8 +658,7 @@ pub fn agc_begin(words: &mut [u16; WORDS], sets: u32, alarm: u32, entries: &[Agc
 /// Power comes back with these phase words, -PHASE1 first, whatever stood in the array: an era
 /// begins with the phases that they tell and no codes, and the number is 0. Where they don't
 /// agree it is a fresh start with code 01107, and the number is ALARM_1107. NO_SUCH_SETS;
-/// NOT_WORDS where a phase word is above 077777; the codes of agc_plan_check for the entries, at
-/// which the trusted form doesn't look.
+/// NOT_WORDS where a phase word is above 077777; the codes of agc_plan_check for the entries.
 pub fn agc_power_up(words: &mut [u16; WORDS], sets: u32, entries: &[AgcPhaseEntry], phase_words: &[u16; PHASE_WORDS]) -> AgcNumber {
     // SAFETY: what is lent outlives the call, which is told how much it is.
     unsafe { raw::agc_power_up(words, sets, entries.as_ptr(), entries.len(), phase_words) }
@@ -746,19 +717,7 @@ pub mod raw {
     #[link(name = "agc", kind = "static")]
     unsafe extern "C" {
         pub fn agc_begin(words: &mut [u16; WORDS], sets: u32, alarm: u32, entries: *const AgcPhaseEntry, entry_count: usize) -> Code;
-        /// As `agc_begin`, of an array that an earlier call left so.
-        ///
-        /// # Safety
-        ///
-        /// The array is as an earlier call with this number of core sets left it: agc.h has more.
-        pub fn agc_begin_trusted(words: &mut [u16; WORDS], sets: u32, alarm: u32, entries: *const AgcPhaseEntry, entry_count: usize) -> Code;
         pub fn agc_power_up(words: &mut [u16; WORDS], sets: u32, entries: *const AgcPhaseEntry, entry_count: usize, phase_words: &[u16; PHASE_WORDS]) -> AgcNumber;
-        /// As `agc_power_up`, of an array that an earlier call left so.
-        ///
-        /// # Safety
-        ///
-        /// The array is as an earlier call with this number of core sets left it: agc.h has more.
-        pub fn agc_power_up_trusted(words: &mut [u16; WORDS], sets: u32, entries: *const AgcPhaseEntry, entry_count: usize, phase_words: &[u16; PHASE_WORDS]) -> AgcNumber;
         pub fn agc_read_request(text: *const u8, length: usize, request: &mut AgcRequest) -> Code;
         pub fn agc_read_action(text: *const u8, length: usize, action: &mut AgcRequest) -> Code;
         pub fn agc_write_reply(step: &AgcStep, fired: &[AgcFired; FIRED], text: *mut u8, room: usize) -> AgcNumber;
@@ -837,70 +796,21 @@ unsafe extern "C" {
     /// NOT_WORDS or UNLAWFUL, the first rule that is broken, where, what stands there and what
     /// would have to.
     pub safe fn agc_explain(words: &[u16; WORDS], sets: u32) -> AgcFinding;
-    /// The job in a core set, 0 to 6, or 7 of eight.
-    pub safe fn agc_job_at(words: &[u16; WORDS], sets: u32, set: u32) -> AgcJob;
-    /// The number of the job that NEWJOB names, which a change of job would let run; 0 for none.
-    pub safe fn agc_next(words: &[u16; WORDS], sets: u32) -> AgcNumber;
-    /// The task that comes due first (place 0), second, .. of those that wait, up to place TASKS
-    /// - 1.
-    pub safe fn agc_task_at(words: &[u16; WORDS], sets: u32, place: u32) -> AgcWaiting;
-    /// The phase, 0 to 127, of a restart group, 1 to 6.
-    pub safe fn agc_phase_at(words: &[u16; WORDS], sets: u32, group: u32) -> AgcNumber;
-    /// FAILREG: the first (place 0), the second (1) or the latest code (2); 0 where there is
-    /// none.
-    pub safe fn agc_failreg(words: &[u16; WORDS], sets: u32, place: u32) -> AgcNumber;
-    /// All of these at once. Answers the code; *scene stays if it isn't OK.
+    /// All that the tables hold. Answers the code; *scene stays if it isn't OK.
     pub safe fn agc_scene(words: &[u16; WORDS], sets: u32, scene: &mut AgcScene) -> Code;
     /// The library's release: 10000 times its first number, 100 times its second, and its third.
     pub safe fn agc_version() -> u32;
-    /// A software restart, without what the phases begin again: no jobs, no tasks; phases and
-    /// codes stay.
-    pub safe fn agc_restart(words: &mut [u16; WORDS], sets: u32) -> Code;
     /// An image of seven core sets becomes one of eight. NOT_NOW where a task is due. The words
     /// don't tell whether they are of eight already: then the job in core set 7 is lost.
     pub safe fn agc_migrate(words: &mut [u16; WORDS]) -> Code;
-    /// NOVAC, FINDVAC: a job of this priority, 1 to 31, at this address, 1 to 16383, in this
-    /// bank, a word. ESTABLISHED, or ALARMED with ALARM_1202, FINDVAC also with ALARM_1201.
-    pub safe fn agc_novac(words: &mut [u16; WORDS], sets: u32, priority: u32, at: u32, bank: u32) -> AgcReply;
-    /// As `agc_findvac`, of an array that an earlier call left so.
-    pub safe fn agc_findvac(words: &mut [u16; WORDS], sets: u32, priority: u32, at: u32, bank: u32) -> AgcReply;
-    /// End of job. LEFT, IDLE or NO_JOB.
-    pub safe fn agc_end_of_job(words: &mut [u16; WORDS], sets: u32) -> AgcReply;
-    /// JOBSLEEP: until this address, 1 to 16383, is called. LEFT, IDLE or NO_JOB.
-    pub safe fn agc_job_sleep(words: &mut [u16; WORDS], sets: u32, at: u32) -> AgcReply;
-    /// JOBWAKE: the least-numbered sleeper of this address, 1 to 16383. ROUSED or NO_SLEEPER.
-    pub safe fn agc_job_wake(words: &mut [u16; WORDS], sets: u32, at: u32) -> AgcReply;
-    /// PRIOCHNG: the running job's priority, 1 to 31. RUNS or NO_JOB.
-    pub safe fn agc_prio_change(words: &mut [u16; WORDS], sets: u32, priority: u32) -> AgcReply;
-    /// Change of job, to what NEWJOB names. RUNS or NO_JOB.
-    pub safe fn agc_change_job(words: &mut [u16; WORDS], sets: u32) -> AgcReply;
-    /// Work word 1 to 6 of the running job, MPAC+1 to MPAC+6. STORED or NO_JOB.
-    pub safe fn agc_store(words: &mut [u16; WORDS], sets: u32, place: u32, word: u32) -> AgcReply;
-    /// The number of the running job, 0 where no job is running.
-    pub safe fn agc_running(words: &[u16; WORDS], sets: u32) -> AgcNumber;
-    /// WAITLIST: a task due in so many centiseconds, 1 to 16250, at this address, 1 to 16383, in
-    /// this bank, a word. LISTED, or ALARMED with ALARM_1203.
-    pub safe fn agc_list(words: &mut [u16; WORDS], sets: u32, delay: u32, at: u32, bank: u32) -> AgcReply;
-    /// A centisecond passes; true where a task is due then. NOT_NOW where one is due before it. A
-    /// tick is this call, and then agc_dispatch as long as agc_due answers true.
-    pub safe fn agc_count_time3(words: &mut [u16; WORDS], sets: u32) -> AgcTruth;
-    /// Whether a task is due now.
-    pub safe fn agc_due(words: &[u16; WORDS], sets: u32) -> AgcTruth;
+    /// One request on the tables alone: at an alarm the tables stay as they are, and no era
+    /// begins. Code and reply are as of a step, except: TICK counts TIME3, NOT_NOW is for it
+    /// alone, where a task is due before it, and a tick is this call and then agc_dispatch until
+    /// that answers NOT_NOW; RESTART takes out all jobs and tasks, and phases and codes stay;
+    /// FRESH takes these out, too.
+    pub safe fn agc_call(words: &mut [u16; WORDS], sets: u32, request: &AgcRequest) -> AgcReply;
     /// Takes out a task that is due: of these the earliest arrival. NOT_NOW where none is due.
     pub safe fn agc_dispatch(words: &mut [u16; WORDS], sets: u32) -> AgcTask;
-    /// The phase, 0 to 127, of a restart group, 1 to 6.
-    pub safe fn agc_set_phase(words: &mut [u16; WORDS], sets: u32, group: u32, phase: u32) -> Code;
     /// Adds one of the four alarms to FAILREG.
     pub safe fn agc_record_alarm(words: &mut [u16; WORDS], sets: u32, alarm: u32) -> Code;
-    /// The phases that twelve phase words tell, as found when power comes back, -PHASE1 first.
-    /// NOT_WORDS, or UNLAWFUL where a pair's words aren't complements of each other, or a phase
-    /// is above 127.
-    pub safe fn agc_recover(words: &[u16; PHASE_WORDS]) -> AgcPhases;
-    /// Arithmetic on words in ones' complement: the sum, the negative, the value. OK or
-    /// NOT_A_WORD.
-    pub safe fn agc_add(a: u32, b: u32) -> AgcSum;
-    /// As `agc_negative`, of an array that an earlier call left so.
-    pub safe fn agc_negative(word: u32) -> AgcNumber;
-    /// As `agc_value`, of an array that an earlier call left so.
-    pub safe fn agc_value(word: u32) -> AgcValue;
 }

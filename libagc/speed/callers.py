@@ -25,7 +25,7 @@ def main():
     timed("Machine.ask", lambda priority: made.ask("novac", priority, 0o2000, 5), lambda: made.ask("fresh"))
     words = (agc.c_uint16 * agc.WORDS)()
     clear = lambda: agc.library.agc_clear(words, 7)
-    timed("ctypes, agc_novac", lambda priority: agc.library.agc_novac(words, 7, priority, 0o2000, 5), clear)
+    timed("ctypes, agc_call", lambda priority: agc.library.agc_call(words, 7, agc.AgcRequest(1, priority, 0o2000, 5)), clear)
     try:
         from cffi import FFI
     except ImportError:
@@ -34,11 +34,11 @@ def main():
     ffi = FFI()
     ffi.cdef(
         "typedef struct { uint32_t code, reply, number; } AgcReply; uint32_t agc_clear(uint16_t *, uint32_t);"
-        "AgcReply agc_novac(uint16_t *, uint32_t, uint32_t, uint32_t, uint32_t);"
+        "typedef struct { uint32_t kind, first, second, third; } AgcRequest; AgcReply agc_call(uint16_t *, uint32_t, AgcRequest *);"
     )
     library, own = ffi.dlopen(agc.library._name), ffi.new("uint16_t[144]")
     clear = lambda: library.agc_clear(own, 7)
-    timed("cffi, agc_novac", lambda priority: library.agc_novac(own, 7, priority, 0o2000, 5), clear)
+    timed("cffi, agc_call", lambda priority: library.agc_call(own, 7, ffi.new("AgcRequest *", (1, priority, 0o2000, 5))), clear)
 
 
 main()

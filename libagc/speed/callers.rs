@@ -26,5 +26,5 @@ fn timed(name: &str, call: fn(&mut Words, u32) -> AgcReply) {
 }
 
 fn main() {
-    timed("agc_novac", |words, priority| agc_novac(words, 7, priority, 0o2000, 5));
+    timed("agc_call", |words, priority| agc_call(words, 7, &AgcRequest { kind: RequestKind::Novac, first: priority, second: 0o2000, third: 5 }));
 }

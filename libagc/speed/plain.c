@@ -178,17 +178,28 @@ static volatile uint32_t seven = 7;
                plain[TURNS / 2], checked[TURNS / 2] / plain[TURNS / 2]);                             \
     } while (0)
 
+static AgcReply call(uint16_t *words, uint32_t sets, uint32_t kind, uint32_t first, uint32_t second, uint32_t third) {
+    AgcRequest request = {kind, first, second, third};
+    return agc_call(words, sets, &request);
+}
+#define CALL_NOVAC(W, S, PRIORITY, AT, BANK) call(W, S, AGC_NOVAC, PRIORITY, AT, BANK)
+#define CALL_FINDVAC(W, S, PRIORITY, AT, BANK) call(W, S, AGC_FINDVAC, PRIORITY, AT, BANK)
+#define CALL_LIST(W, S, DELAY, AT, BANK) call(W, S, AGC_LIST, DELAY, AT, BANK)
+#define CALL_END(W, S) call(W, S, AGC_END, 0, 0, 0)
+#define CALL_TICK(W, S) call(W, S, AGC_TICK, 0, 0, 0)
+#define CALL_PHASE(W, S, GROUP, NUMBER) call(W, S, AGC_PHASE, GROUP, NUMBER, 0).code
+
 int main(void) {
     agc_clear(start, 7);
-    MEASURE("novac", plain_novac, agc_novac, .number, , 1 + i % 31, 02000, 5);
-    MEASURE("findvac", plain_findvac, agc_findvac, .number, , 1 + i % 31, 02000, 5);
-    MEASURE("list", plain_list, agc_list, .reply, , 1 + i * 5 % 40, 04000, 7);
-    for (uint32_t k = 0; k < 7; k++) agc_findvac(start, 7, 1 + k * 3 % 7, 02000, 5);
-    for (uint32_t k = 0; k < 2; k++) agc_novac(start, 7, 3, 02000, 5);
-    for (uint32_t k = 0; k < 9; k++) agc_list(start, 7, 100 + k * 3 % 7, 04000, 7);
-    MEASURE("end of job", plain_end, agc_end_of_job, .number, );
-    MEASURE("count TIME3", plain_count, agc_count_time3, .code, );
-    MEASURE("phase", plain_phase, agc_set_phase, , , 1 + i % 6, i % 128);
+    MEASURE("novac", plain_novac, CALL_NOVAC, .number, , 1 + i % 31, 02000, 5);
+    MEASURE("findvac", plain_findvac, CALL_FINDVAC, .number, , 1 + i % 31, 02000, 5);
+    MEASURE("list", plain_list, CALL_LIST, .reply, , 1 + i * 5 % 40, 04000, 7);
+    for (uint32_t k = 0; k < 7; k++) call(start, 7, AGC_FINDVAC, 1 + k * 3 % 7, 02000, 5);
+    for (uint32_t k = 0; k < 2; k++) call(start, 7, AGC_NOVAC, 3, 02000, 5);
+    for (uint32_t k = 0; k < 9; k++) call(start, 7, AGC_LIST, 100 + k * 3 % 7, 04000, 7);
+    MEASURE("end of job", plain_end, CALL_END, .number, );
+    MEASURE("tick", plain_count, CALL_TICK, .code, );
+    MEASURE("phase", plain_phase, CALL_PHASE, , , 1 + i % 6, i % 128);
     printf("(%u)\n", sum);
     return 0;
 }

@@ -4,7 +4,7 @@
 
        caller checked|trusted|single
 
-   by agc_step, by agc_step_trusted, or by the single calls. */
+   by agc_step, by agc_step_trusted, or by agc_call. */
 #define AGC_IGNORE_ANSWERS
 #include "agc.h"
 
@@ -80,28 +80,13 @@ static AgcRequest read(const char *line, bool is_action) {
     return it;
 }
 
-/* What the single calls of a request reply. */
-static AgcReply call(const AgcRequest *it) {
-    AgcReply phased = {AGC_OK, AGC_PHASED, 0};
-    switch (it->kind) {
-    case AGC_NOVAC: return agc_novac(words, sets, it->first, it->second, it->third);
-    case AGC_FINDVAC: return agc_findvac(words, sets, it->first, it->second, it->third);
-    case AGC_END: return agc_end_of_job(words, sets);
-    case AGC_SLEEP: return agc_job_sleep(words, sets, it->first);
-    case AGC_ROUSE: return agc_job_wake(words, sets, it->first);
-    case AGC_PRIO: return agc_prio_change(words, sets, it->first);
-    case AGC_CHANGE: return agc_change_job(words, sets);
-    case AGC_STORE: return agc_store(words, sets, it->first, it->second);
-    case AGC_LIST: return agc_list(words, sets, it->first, it->second, it->third);
-    default: phased.code = agc_set_phase(words, sets, it->first, it->second); return phased;
-    }
-}
-
 /* A tick: each task that is due fires, and what the plan has for it is done, up to an alarm. */
 static void tick(AgcStep *step, AgcFired *fired) {
+    AgcRequest counted = {AGC_TICK, 0, 0, 0};
     step->reply = AGC_TICKED;
-    want(agc_count_time3(words, sets).code == AGC_OK, "a tick");
-    while (step->number == 0 && agc_due(words, sets).truth) {
+    want(agc_call(words, sets, &counted).code == AGC_OK, "a tick");
+    want(agc_check(words, sets).truth || agc_call(words, sets, &counted).code == AGC_NOT_NOW, "a second tick");
+    while (step->number == 0 && !agc_check(words, sets).truth) {
         AgcTask task = agc_dispatch(words, sets);
         want(task.code == AGC_OK, "a task that is due");
         AgcFired found = {task.at, task.bank};
@@ -110,7 +95,7 @@ static void tick(AgcStep *step, AgcFired *fired) {
             if (rows[k].at != task.at || rows[k].bank != task.bank) continue;
             for (uint32_t j = 0; j < AGC_ACTIONS && step->number == 0; j++) {
                 if (rows[k].actions[j].kind == AGC_NOTHING) continue;
-                AgcReply reply = call(&rows[k].actions[j]);
+                AgcReply reply = agc_call(words, sets, &rows[k].actions[j]);
                 want(reply.code == AGC_OK, "an action");
                 if (reply.reply == AGC_ALARMED) step->reply = AGC_TICK_ALARMED, step->number = reply.number, step->action = j + 1;
             }
@@ -118,17 +103,17 @@ static void tick(AgcStep *step, AgcFired *fired) {
     }
 }
 
-/* A step by the single calls. An era begins after an alarm, and by a restart or a fresh start. */
+/* A step by agc_call. An era begins after an alarm, and by a restart or a fresh start. */
 static AgcStep by_single_calls(const AgcRequest *it, AgcFired *fired) {
     AgcStep step = {AGC_OK, AGC_RESTARTED, 0, 0, 0};
     if (it->kind == AGC_TICK) {
         tick(&step, fired);
-    } else if (it->kind != AGC_RESTART && it->kind != AGC_FRESH) {
-        AgcReply reply = call(it);
+    } else if (it->kind != AGC_RESTART) {
+        AgcReply reply = agc_call(words, sets, it);
         step.code = reply.code, step.reply = reply.reply, step.number = reply.number;
     }
-    if (it->kind == AGC_FRESH) step.code = agc_clear(words, sets);
-    else if (step.reply == AGC_RESTARTED || step.reply == AGC_ALARMED || step.reply == AGC_TICK_ALARMED)
+    if (it->kind == AGC_FRESH) return step;
+    if (step.reply == AGC_RESTARTED || step.reply == AGC_ALARMED || step.reply == AGC_TICK_ALARMED)
         step.code = agc_begin(words, sets, step.number, entries, entry_count);
     return step;
 }

@@ -7,13 +7,18 @@
 
 enum { MOST = 640 };
 
+static uint32_t call(uint16_t *words, uint32_t kind, uint32_t first, uint32_t second, uint32_t third) {
+    AgcRequest request = {kind, first, second, third};
+    return agc_call(words, 7, &request).code;
+}
+
 static uint32_t check(long calls) {
     static uint16_t words[AGC_WORDS];
     uint32_t k, code = agc_clear(words, 7);
-    for (k = 0; k < 5; k++) code |= agc_findvac(words, 7, 1 + k, 02000, 5).code;
-    for (k = 0; k < 2; k++) code |= agc_novac(words, 7, 3, 02000, 5).code;
-    for (k = 0; k < 9; k++) code |= agc_list(words, 7, 100 + k * 3 % 7, 04000, 7).code;
-    for (k = 1; k <= 6; k++) code |= agc_set_phase(words, 7, k, k);
+    for (k = 0; k < 5; k++) code |= call(words, AGC_FINDVAC, 1 + k, 02000, 5);
+    for (k = 0; k < 2; k++) code |= call(words, AGC_NOVAC, 3, 02000, 5);
+    for (k = 0; k < 9; k++) code |= call(words, AGC_LIST, 100 + k * 3 % 7, 04000, 7);
+    for (k = 1; k <= 6; k++) code |= call(words, AGC_PHASE, k, k, 0);
     while (calls-- > 0) code |= agc_check(words, 7).code;
     return code;
 }

@@ -66,17 +66,6 @@ def last_set_is_named(sets):
     assert read(machine.words, sets) == scene_of(machine.words) and machine.scene().next == sets
 
 
-def out_of_range(words, sets):
-    """The first number beyond each range has code 4, and nothing is told."""
-    array = array_of(words)
-    for call, number in [("job_at", sets), ("task_at", 9), ("phase_at", 0), ("phase_at", 7), ("failreg", 3)]:
-        told = getattr(library, f"agc_{call}")(array, sets, number)
-        others = [getattr(told, name) for name, _ in told._fields_[1:] if name != "work"]
-        assert told.code == Code.OUT_OF_RANGE and not any(others), call
-    for call in ("explain", "next"):
-        assert getattr(library, f"agc_{call}")(array, 9).code == Code.NO_SUCH_SETS, call
-
-
 def changed(chance, words):
     """One to three words that are others."""
     found = [*words]
@@ -138,7 +127,6 @@ class Reading(unittest.TestCase):
                 words = machine.words
                 if k % 40 == 0:
                     self.assertEqual(read(words, sets), scene_of(words), words)
-                    out_of_range(words, sets)
                 other = changed(chance, words)
                 faults += explains(words, other, sets, chance)
                 rules |= {finding_of(other).rule} if finding_of(other) else set()

@@ -6,7 +6,7 @@ use Rattle.agc_plan.specs.declared.request.Task.{Task}
 use Rattle.agc_plan.specs.Begins.{Begins}
 use Rattle.agc_plan.specs.Plans.{Rows, actions_in, has_task, task_twice, phase_twice, all_want, fault_of}
 use Rattle.libagc.specs.declared.plans.AgcRow.{AgcRow}
-use Rattle.libagc.specs.Written.{actions_from_c, row_from_c, rows_from_c}
+use Rattle.libagc.specs.Plans.{actions_from_c, row_from_c, rows_from_c}
 
 hit : (row : Task × List Action) (rows : Rows) (task : Task) → row.0.at ≡ task.at → row.0.bank ≡ task.bank → actions_in (row ∷ rows) task ≡ row.1
 hit row rows task at bank = grind (arith, common_steps)

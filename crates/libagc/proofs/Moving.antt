@@ -6,7 +6,7 @@ use Rattle.libagc.specs.declared.fault.Fault.TheVariants.{NotNow}
 use Rattle.agc_image.specs.Images.{size_with, image_of, AreWords, IsImage}
 use Rattle.agc_machine.specs.Image.{IsLawfulImage}
 use Rattle.agc_machine.specs.Migration.{Migrates}
-use Rattle.libagc.specs.Tasks.{one_due}
+use Rattle.libagc.specs.Requests.{one_due}
 
 -- an image whose words aren't lawful between requests has a task that is due
 due_inside : (array words : List ℕ) → IsImage 7 array → words ≡ image_of 7 array → ¬ IsLawfulImage words → (due : Bool) → one_due 7 array ≡ due → due ≡ true

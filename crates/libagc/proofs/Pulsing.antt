@@ -7,12 +7,12 @@ use Rattle.std.specs.Option.{option_to_list}
 use Rattle.agc_plan.specs.declared.request.Request.{Request}
 use Rattle.agc_plan.specs.Pulses.{action_request, requests_for}
 use Rattle.libagc.specs.declared.reading.AgcRequest.{AgcRequest}
-use Rattle.libagc.specs.Written.{action_from_c}
+use Rattle.libagc.specs.Plans.{action_from_c}
 use Rattle.agc_machine.specs.declared.answer.Refusal.TheVariants.{Spent, LogFull}
 use Rattle.agc_machine.specs.Machines.{IsLawful, Machined, refusal_of, starts_over}
 use Rattle.libagc.specs.declared.asking.AgcBounds.{AgcBounds}
-use Rattle.libagc.specs.Asking.{Counts, bounds_code, refusal_code}
-use Rattle.libagc.specs.Spelled.{numbers_of}
+use Rattle.libagc.specs.Requests.{HasCounts, bounds_code, refusal_code}
+use Rattle.libagc.specs.Numbers.{numbers_of}
 
 -- the numbers of what actions ask for
 abbrev pub asks : List AgcRequest → List AgcRequest
@@ -48,7 +48,7 @@ same_code true full = refl
 same_code false true = refl
 same_code false false = refl
 
-pub counts_refuse : (m : Machined) (bounds : AgcBounds) (asked : Request) → IsLawful m → Counts m bounds → bounds_code bounds asked ≡ refusal_code (refusal_of m asked)
+pub counts_refuse : (m : Machined) (bounds : AgcBounds) (asked : Request) → IsLawful m → HasCounts m bounds → bounds_code bounds asked ≡ refusal_code (refusal_of m asked)
 counts_refuse m bounds asked lawful counts =
     let spent : nat_le bounds.allowance bounds.served ≡ (m.totals.served == m.allowance) = ap₂ (λ (x y : ℕ). nat_le x y) (sym counts.allowance) (sym counts.served) ∙ at_most m.allowance m.totals.served lawful.allowed in
     let full : nat_le bounds.limit bounds.logged ≡ (length m.log == m.limit) = ap₂ (λ (x y : ℕ). nat_le x y) (sym counts.limit) (sym counts.logged) ∙ at_most m.limit (length m.log) lawful.short in

@@ -10,13 +10,12 @@ use Rattle.agc_plan.specs.Steps.{begun}
 use Rattle.agc_phase.specs.Image.{ArePairs, Becomes, base_of}
 use Rattle.libagc.specs.declared.plans.AgcPhaseEntry.{AgcPhaseEntry}
 use Rattle.agc_image.specs.Images.{IsSets, IsOpened, IsWritten, Changed, size_with, image_of, behind}
-use Rattle.libagc.specs.Written.{plan_from_c}
+use Rattle.libagc.specs.Plans.{plan_from_c}
 use Rattle.agc_image.proofs.Frames.{changed, sets_of_size}
 use Rattle.agc_phase.specs.Image.{power_base}
 use Rattle.agc_machine.specs.Stands.{BeginsEra, Stands}
 use Rattle.agc_machine.proofs.Beginning.{same_sets}
-use Rattle.libagc.specs.Stepping.{plan_for}
-use Rattle.libagc.specs.Eras.{base_after, BeginsWith, Begins, PowersUp, power_number}
+use Rattle.libagc.specs.Stepping.{plan_for, base_after, BeginsWith, Begins, PowersUp, power_number}
 use Rattle.libagc.proofs.Stepping.{lawful_of}
 
 begun_with : (entries : List AgcPhaseEntry) (base : Base) (mid new : List ℕ) → base_of mid ≡ base → BeginsEra (plan_for [] entries mid) mid new → BeginsWith entries base new

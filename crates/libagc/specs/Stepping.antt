@@ -1,6 +1,7 @@
--- The effect of a whole step on a caller's words, and its reply.
-use Rattle.std.specs.Prelude.{◌≡◌, ◌⊎◌, ℕ, ◌==◌, nat_lt, true, false, if◌then◌else◌, List}
-use Rattle.std.specs.Prelude.{Some, None, length, slice_get}
+-- The effect of a whole step on a caller's words, of an era that begins by a caller's entries, and
+-- of power coming back.
+use Rattle.std.specs.Prelude.{◌≡◌, ◌⊎◌, ℕ, ◌==◌, nat_lt, true, false, if◌then◌else◌, List, Some}
+use Rattle.std.specs.Prelude.{None, length, slice_get, ◌↔◌, IsTrue, ◌||◌, Bool, []}
 use Rattle.agc_plan.specs.declared.reply.Reply.{Reply}
 use Rattle.agc_plan.specs.declared.request.Request.{Request}
 use Rattle.agc_plan.specs.declared.request.Task.{Task}
@@ -11,14 +12,18 @@ use Rattle.agc_wait.specs.Waits.{is_due}
 use Rattle.libagc.specs.declared.reading.AgcRequest.{AgcRequest}
 use Rattle.libagc.specs.declared.plans.AgcPhaseEntry.{AgcPhaseEntry}
 use Rattle.libagc.specs.declared.plans.AgcRow.{AgcRow}
-use Rattle.libagc.specs.FromC.{is_request, request_from_c, request_fault}
-use Rattle.libagc.specs.Codes.{NoImage, code_of}
-use Rattle.agc_image.specs.Images.{Changed, IsImage, image_of}
-use Rattle.libagc.specs.Written.{plan_from_c}
-use Rattle.agc_machine.specs.Stands.{Acts, StepsTo, FiresIn, RaisesIn, IsReady}
+use Rattle.libagc.specs.Numbers.{is_request, request_from_c, request_fault}
+use Rattle.libagc.specs.Codes.{NoImage, code_of, reply_to_c}
+use Rattle.agc_image.specs.Images.{Changed, IsImage, image_of, AreWords, IsSets, behind}
+use Rattle.libagc.specs.Plans.{plan_from_c}
+use Rattle.agc_machine.specs.Stands.{Acts, StepsTo, FiresIn, RaisesIn, IsReady, Stands}
 use Rattle.libagc.specs.declared.steps.AgcFired.{AgcFired}
 use Rattle.libagc.specs.declared.steps.AgcStep.{AgcStep}
-use Rattle.libagc.specs.Replies.{reply_to_c}
+use Rattle.std.specs.Option.{is_some, option_map_or}
+use Rattle.agc_plan.specs.Base.{Base, with_code}
+use Rattle.agc_plan.specs.Seats.{era_places}
+use Rattle.agc_plan.specs.Steps.{begun}
+use Rattle.agc_phase.specs.Image.{ArePairs, base_of, code_of_word, power_base}
 
 -- a reply, with this many tasks that fired, the last of which raised an alarm by the action of this
 -- number
@@ -105,3 +110,45 @@ StepCoded code sets array asked plan =
     NoImage code sets array
     ⊎ ((IsImage sets array × (is_request asked ≡ false) × (code ≡ code_of (request_fault asked)))
     ⊎ (IsImage sets array × (is_request asked ≡ true) × Lacks code (image_of sets array) plan))
+
+-- the phases and codes after this alarm was recorded; 0 is none
+abbrev pub base_after : ℕ → Base → Base
+base_after alarm base = option_map_or (λ code. with_code code base) (code_of_word alarm) base
+
+-- an era began in these words with these phases and codes: the jobs and tasks are those of the
+-- entries for the phases
+pub record BeginsWith (entries : List AgcPhaseEntry) (base : Base) (words : List ℕ) : Type 0 where
+  pub ready : IsReady words
+  pub base_is : base_of words ≡ base
+  pub stands : Stands words (begun (plan_for [] entries words) base.phases)
+      (era_places (plan_for [] entries words) base)
+
+-- an era begins after this alarm
+pub record Begins (entries : List AgcPhaseEntry) (alarm : ℕ) (old new : List ℕ) : Type 0 where
+  pub same_length : length new ≡ length old
+  pub begins : BeginsWith entries (base_after alarm (base_of old)) new
+
+-- the code of a number that is to be an alarm, or 0 if there is none
+abbrev pub alarm_lack : ℕ → ℕ
+alarm_lack alarm = if alarm == 0 || is_some (code_of_word alarm) then 0 else 4
+
+-- 01107 where phase words don't agree
+abbrev pub power_number : Bool → ℕ
+power_number recovered = if recovered then 0 else 0o1107
+
+-- power came back with these phase words: an era began in an image by them alone, and the numbers
+-- after it are as before
+pub record PowersUp (sets : ℕ) (entries : List AgcPhaseEntry) (phase_words old new : List ℕ)
+    (number : ℕ) : Type 0 where
+  pub recovered : Bool
+  pub agreed : IsTrue recovered ↔ ArePairs phase_words
+  pub number_is : number ≡ power_number recovered
+  pub image : IsImage sets new
+  pub begins : BeginsWith entries (power_base recovered phase_words) (image_of sets new)
+  pub rest : behind sets new ≡ behind sets old
+
+-- the code of a power-up: core sets, words, and then the plan's
+pub record PowerCoded (code sets : ℕ) (phase_words : List ℕ) (plan : ℕ) : Type 0 where
+  pub no_such_sets : ¬ IsSets sets → code ≡ 1
+  pub not_words : IsSets sets → ¬ AreWords phase_words → code ≡ 2
+  pub other : IsSets sets → AreWords phase_words → code ≡ plan

@@ -4,14 +4,12 @@ ghost use Rattle.std.specs.List.{list_all};
 ghost use Rattle.std.specs.Option.{option_to_list};
 ghost use Rattle.agc_plan.specs.declared.request.Request.{Request};
 ghost use Rattle.agc_plan.specs.Pulses.{action_request, requests_for};
-ghost use Rattle.libagc.specs.FromC.{request_from_c};
+ghost use Rattle.libagc.specs.Numbers.{request_from_c, numbers_of};
 ghost use Rattle.libagc.specs.Codes.{code_for};
-ghost use Rattle.libagc.specs.Lacking.{is_action};
-ghost use Rattle.libagc.specs.Written.{action_from_c};
+ghost use Rattle.libagc.specs.Plans.{is_action, action_from_c};
 ghost use Rattle.agc_machine.specs.Machines.{IsLawful, Machined, refusal_of};
-ghost use Rattle.libagc.specs.Asking.{Counts, are_few, bounds_code, pulse_lacks};
-ghost use Rattle.libagc.specs.Asking.{pulse_to_c, refusal_code, refused_code};
-ghost use Rattle.libagc.specs.Spelled.{numbers_of};
+ghost use Rattle.libagc.specs.Requests.{HasCounts, are_few, bounds_code, pulse_lacks, pulse_to_c};
+ghost use Rattle.libagc.specs.Requests.{refusal_code, refused_code};
 
 use crate::fault::Fault;
 use crate::lacking::is_action;
@@ -54,7 +52,7 @@ fn bounds_code(bounds: &AgcBounds, request: &Request) -> u32
 pub extern "C" fn agc_refusal(request: &AgcRequest, bounds: &AgcBounds) -> u32
     ensures code { result ≡ refused_code request.now bounds.now }
     // A machine with these counts refuses the same.
-    ensures machine { (m : Machined) (asked : Request) → IsLawful m → Counts m bounds.now
+    ensures machine { (m : Machined) (asked : Request) → IsLawful m → HasCounts m bounds.now
         → request_from_c request.now ≡ Some asked → result ≡ refusal_code (refusal_of m asked) }
 {
     match request_of(request) {

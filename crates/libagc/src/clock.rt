@@ -4,10 +4,8 @@ ghost use Rattle.agc_clock.specs.Clocks.{Clocked};
 ghost use Rattle.agc_exec.specs.Image.{jobs_in};
 ghost use Rattle.libagc.specs.Codes.{Coded, code_for};
 ghost use Rattle.agc_image.specs.Images.{IsImage, IsLawful, image_of};
-ghost use Rattle.libagc.specs.Clocks.{ClockAsks, alarm_to_c, asker_to_c, source_to_c, begins_era};
-ghost use Rattle.libagc.specs.Clocks.{clock_after};
-ghost use Rattle.libagc.specs.LateTimes.{times_lack};
-ghost use Rattle.libagc.specs.BorrowedTimes.{event_after, timetable_from_c};
+ghost use Rattle.libagc.specs.Times.{ClockAsks, alarm_to_c, source_to_c, begins_era};
+ghost use Rattle.libagc.specs.Times.{clock_after, times_lack, event_after, timetable_from_c};
 
 use crate::fault::image_in;
 use crate::lines::numbers_of;

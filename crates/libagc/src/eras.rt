@@ -1,12 +1,14 @@
 // The beginning of an era, and power coming back.
 ghost use Rattle.std.specs.Prelude.{◌≡◌, ℕ, []};
-ghost use Rattle.libagc.specs.Codes.{Coded, code_for, first_of};
+ghost use Rattle.std.specs.Option.{is_some};
+ghost use Rattle.libagc.specs.Codes.{Coded, code_for, code_unless, first_of};
 ghost use Rattle.agc_image.specs.Images.{AreWords, Changed, IsImage, IsSets};
-ghost use Rattle.libagc.specs.Lacking.{lacking};
-ghost use Rattle.agc_phase.specs.Image.{Becomes, IsLawfulTable, base_of};
+ghost use Rattle.libagc.specs.Plans.{lacking};
+ghost use Rattle.libagc.specs.declared.fault.Fault.TheVariants.{OutOfRange};
+ghost use Rattle.agc_phase.specs.Image.{Becomes, IsLawfulTable, base_of, code_of_word};
 ghost use Rattle.agc_word.specs.Profiles.{count_of};
-ghost use Rattle.libagc.specs.Eras.{Begins, PowersUp, PowerCoded, alarm_lack, base_after};
-ghost use Rattle.libagc.specs.Eras.{power_number};
+ghost use Rattle.libagc.specs.Stepping.{Begins, PowersUp, PowerCoded, alarm_lack, base_after};
+ghost use Rattle.libagc.specs.Stepping.{power_number};
 
 use crate::fault::{Fault, image_in};
 use crate::lacking::plan_lacks;
@@ -14,7 +16,7 @@ use crate::numbers;
 use crate::numbers::alarm_code;
 use crate::plans::{AgcPhaseEntry, AgcPlan};
 use crate::reply::AgcNumber;
-use agc_image::{blank_image, open, twelve, write_back};
+use agc_image::{twelve, write_back};
 use agc_machine::begin;
 use agc_phase::{record_alarm, recover_into};
 use agc_word::{Erasable, Sets, Word};
@@ -41,19 +43,6 @@ fn note(alarm: u32, e: &mut Erasable)
     }
 }
 
-/// Begins an era in an image.
-fn begin_era(words: &mut [u16; 144], sets: u32, alarm: u32, entries: &[AgcPhaseEntry])
-    requires { IsImage sets words.old }
-    ensures { Changed (Begins entries.now alarm) sets words.old words.new }
-{
-    let mut image = blank_image(sets);
-    open(words, sets, &mut image);
-    note(alarm, &mut image);
-    let plan = AgcPlan { rows: &[], entries };
-    begin(&plan, &mut image);
-    write_back(&image, words);
-}
-
 /// An era begins, as after an alarm: its code, 01107, 01201, 01202 or 01203, is recorded, or none
 /// if it is 0. All jobs and tasks are gone, and then for groups 1 to 6 in order the entry of the
 /// group's phase begins, its job and then its task. Returns the code: 1 to 3 for the image, 4 for
@@ -72,7 +61,7 @@ pub extern "C" fn agc_begin(
 {
     match image_in(words, sets) {
         Err(fault) => fault.code(),
-        Ok(_image) => {
+        Ok(mut image) => {
             let lack = alarm_lack(alarm);
             if lack != 0 {
                 return lack;
@@ -80,7 +69,9 @@ pub extern "C" fn agc_begin(
             match plan_lacks(&[], entries) {
                 Some(fault) => fault.code(),
                 None => {
-                    begin_era(words, sets, alarm, entries);
+                    note(alarm, &mut image);
+                    begin(&AgcPlan { rows: &[], entries }, &mut image);
+                    write_back(&image, words);
                     0
                 }
             }
@@ -88,25 +79,27 @@ pub extern "C" fn agc_begin(
     }
 }
 
-/// As `agc_begin`, for an array that is known to have an image; it doesn't look at the entries.
-/// Codes 0 and 4 alone. Source: the listings' FRESH START AND RESTART section.
+/// Adds an alarm's code to FAILREG: 01107, 01201, 01202 or 01203. Answers the code of the call, 4
+/// if it is none of these.
 #[unsafe(no_mangle)]
-pub extern "C" fn agc_begin_trusted(
-    words: &mut [u16; 144],
-    sets: u32,
-    alarm: u32,
-    entries: &[AgcPhaseEntry],
-) -> u32
-    requires { IsImage sets words.old }
-    ensures code { result ≡ alarm_lack alarm }
-    ensures served { result ≡ 0 → Changed (Begins entries.now alarm) sets words.old words.new }
+pub extern "C" fn agc_record_alarm(words: &mut [u16; 144], sets: u32, alarm: u32) -> u32
+    ensures code { Coded result sets words.old
+        (code_unless (is_some (code_of_word alarm)) OutOfRange) }
+    ensures served { result ≡ 0 → Changed
+        (λ old new. Becomes (base_after alarm (base_of old)) old new) sets words.old words.new }
     ensures with_fault { ¬ (result ≡ 0) → words.new ≡ words.old }
 {
-    let lack = alarm_lack(alarm);
-    if lack == 0 {
-        begin_era(words, sets, alarm, entries);
+    match image_in(words, sets) {
+        Err(fault) => fault.code(),
+        Ok(mut image) => {
+            if alarm_code(alarm).is_none() {
+                return Fault::OutOfRange.code();
+            }
+            note(alarm, &mut image);
+            write_back(&image, words);
+            0
+        }
     }
-    lack
 }
 
 /// The number of code 01107, where phase words don't agree.
@@ -161,29 +154,6 @@ pub extern "C" fn agc_power_up(
                 Some(fault) => AgcNumber::with_fault(fault),
                 None => rise(words, count, entries, &found),
             },
-        },
-    }
-}
-
-/// As `agc_power_up`, and doesn't look at the entries. Source: the listings' FRESH START AND
-/// RESTART section.
-#[unsafe(no_mangle)]
-pub extern "C" fn agc_power_up_trusted(
-    words: &mut [u16; 144],
-    sets: u32,
-    entries: &[AgcPhaseEntry],
-    phase_words: &[u16; 12],
-) -> AgcNumber
-    ensures code { PowerCoded result.code sets phase_words.now 0 }
-    ensures served { result.code ≡ 0
-        → PowersUp sets entries.now phase_words.now words.old words.new result.number }
-    ensures with_fault { ¬ (result.code ≡ 0) → (words.new ≡ words.old) × (result.number ≡ 0) }
-{
-    match numbers::sets(sets) {
-        None => AgcNumber::with_fault(Fault::NoSuchSets),
-        Some(count) => match twelve(phase_words) {
-            None => AgcNumber::with_fault(Fault::NotWords),
-            Some(found) => rise(words, count, entries, &found),
         },
     }
 }

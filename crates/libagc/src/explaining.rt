@@ -1,7 +1,6 @@
 // The first word of an array that isn't lawful, and the word that would be.
 ghost use Rattle.std.specs.Prelude.{◌≡◌, ◌<◌, ◌≤◌, slice_index};
-ghost use Rattle.libagc.specs.Codes.{Coded};
-ghost use Rattle.libagc.specs.Explaining.{IsBroken, only_code};
+ghost use Rattle.libagc.specs.Codes.{Coded, IsBroken, only_code};
 
 use crate::fault::image_in;
 use agc_image::first_broken;

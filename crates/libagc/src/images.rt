@@ -1,15 +1,14 @@
-// The calls on a whole image, except the one that makes it.
+// The calls on a whole image, and the library's release.
 ghost use Rattle.std.specs.Prelude.{◌≡◌, not, false};
 ghost use Rattle.libagc.specs.Codes.{Coded, code_unless};
 ghost use Rattle.libagc.specs.declared.fault.Fault.TheVariants.{NotNow};
-ghost use Rattle.agc_image.specs.Images.{image_of, IsImage, Changed};
+ghost use Rattle.agc_image.specs.Images.{image_of, IsImage};
 ghost use Rattle.agc_machine.specs.Migration.{Migrates};
-ghost use Rattle.libagc.specs.Beginnings.{Restarts};
-ghost use Rattle.libagc.specs.Tasks.{one_due};
+ghost use Rattle.libagc.specs.Requests.{one_due};
 
 use crate::fault::{Fault, image_in};
 use crate::reply::AgcTruth;
-use agc_image::{seven, write_all, write_back};
+use agc_image::{seven, write_all};
 use agc_machine::migrate;
 
 /// Whether the array has an image of this many core sets, 7 or 8: code 0 exactly there, else 1, 2
@@ -21,31 +20,14 @@ pub extern "C" fn agc_check(words: &[u16; 144], sets: u32) -> AgcTruth
     ensures with_fault { ¬ (result.code ≡ 0) → result.truth ≡ false }
 {
     match image_in(words, sets) {
-        Err(fault) => AgcTruth::with_fault(fault),
+        Err(fault) => AgcTruth {
+            code: fault.code(),
+            truth: false,
+        },
         Ok(image) => AgcTruth {
             code: 0,
             truth: !agc_wait::due(&image),
         },
-    }
-}
-
-/// The software restart, without what the phases begin again: all jobs and tasks are gone, phases
-/// and codes stay; of a core set PRIORITY alone changes. Answers the code. Source: the listings'
-/// FRESH START AND RESTART section.
-#[unsafe(no_mangle)]
-pub extern "C" fn agc_restart(words: &mut [u16; 144], sets: u32) -> u32
-    ensures code { Coded result sets words.old 0 }
-    ensures served { result ≡ 0 → Changed (Restarts sets) sets words.old words.new }
-    ensures with_fault { ¬ (result ≡ 0) → words.new ≡ words.old }
-{
-    match image_in(words, sets) {
-        Err(fault) => fault.code(),
-        Ok(mut image) => {
-            agc_exec::clear(&mut image);
-            agc_wait::clear(&mut image);
-            write_back(&image, words);
-            0
-        }
     }
 }
 
@@ -68,4 +50,12 @@ pub extern "C" fn agc_migrate(words: &mut [u16; 144]) -> u32
             }
         },
     }
+}
+
+/// The release of the library: 10000 times its first number, 100 times its second, and its third.
+#[unsafe(no_mangle)]
+pub extern "C" fn agc_version() -> u32
+    ensures { result ≡ 10000 }
+{
+    10000
 }

@@ -5,13 +5,13 @@ ghost use Rattle.agc_plan.specs.Plans.{has_task, task_twice, has_entry, phase_tw
 ghost use Rattle.agc_plan.specs.Plans.{all_want};
 ghost use Rattle.agc_plan.specs.Quiet.{BeginsQuietly};
 ghost use Rattle.libagc.specs.Codes.{code_for};
-ghost use Rattle.libagc.specs.Written.{rows_from_c, entries_from_c, plan_from_c};
-ghost use Rattle.libagc.specs.Lacking.{is_action, is_row, is_entry, lacking};
+ghost use Rattle.libagc.specs.Plans.{rows_from_c, entries_from_c, plan_from_c, is_action, is_row};
+ghost use Rattle.libagc.specs.Plans.{is_entry, lacking};
 
 use crate::fault::Fault;
-use crate::numbers::{address, group, phase};
+use crate::numbers::{group, phase};
 use crate::plans::{AgcPhaseEntry, AgcPlan, AgcRow, job_of, listed_of};
-use crate::reading::{AgcRequest, listing_of, start_of, task_of};
+use crate::reading::{AgcRequest, request_of, task_of};
 use agc_plan::wants_area;
 
 /// Whether a task has a row.
@@ -86,26 +86,17 @@ fn all_want(entries: &[AgcPhaseEntry]) -> bool
         && group_wants(entries, 6)
 }
 
-/// Whether the numbers of a kind other than 0 are an action.
-fn is_doing(a: &AgcRequest) -> bool
-    requires { ¬ (a.now.kind ≡ 0) }
-    ensures { result ≡ is_action a.now }
-{
-    match a.kind {
-        1 | 2 => start_of(a.first, a.second, a.third).is_some(),
-        5 => address(a.first).is_some(),
-        9 => listing_of(a.first, a.second, a.third).is_some(),
-        _ => false,
-    }
-}
-
 /// Whether numbers are an action.
 // Most rows have fewer than four, so the test for none is in line.
 #[inline(always)]
 pub(crate) fn is_action(a: &AgcRequest) -> bool
     ensures { result ≡ is_action a.now }
 {
-    if a.kind == 0 { true } else { is_doing(a) }
+    match a.kind {
+        0 => true,
+        1 | 2 | 5 | 9 => request_of(a).is_some(),
+        _ => false,
+    }
 }
 
 /// Whether numbers are a row.

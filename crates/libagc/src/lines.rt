@@ -5,8 +5,8 @@ ghost use Rattle.agc_plan.specs.declared.request.Action.{Action};
 ghost use Rattle.agc_plan.specs.declared.request.Request.{Request};
 ghost use Rattle.agc_plan.specs.Ranges.{IsRequest, IsAction};
 ghost use Rattle.agc_text.specs.Lines.{line_of, action_line_of};
-ghost use Rattle.libagc.specs.Spelled.{request_with, numbers_of, action_numbers, ReadsRequest};
-ghost use Rattle.libagc.specs.Spelled.{ReadsAction};
+ghost use Rattle.libagc.specs.Numbers.{request_with, numbers_of, action_numbers, ReadsRequest};
+ghost use Rattle.libagc.specs.Numbers.{ReadsAction};
 
 use crate::fault::Fault;
 use crate::reading::AgcRequest;

@@ -4,8 +4,8 @@ ghost use Rattle.agc_plan.specs.Ranges.{IsPriority, IsAddress, IsDelay, IsSix};
 ghost use Rattle.agc_word.specs.Profiles.{count_of};
 ghost use Rattle.agc_phase.specs.Image.{code_of_word};
 ghost use Rattle.agc_image.specs.Images.{IsSets};
-ghost use Rattle.libagc.specs.FromC.{word_from_c, priority_from_c, address_from_c, delay_from_c};
-ghost use Rattle.libagc.specs.FromC.{six_from_c, phase_from_c};
+ghost use Rattle.libagc.specs.Numbers.{word_from_c, priority_from_c, address_from_c, delay_from_c};
+ghost use Rattle.libagc.specs.Numbers.{six_from_c, phase_from_c};
 
 use agc_plan::{Address, Code, Delay, Group, Phase, Place, Priority};
 use agc_word::{Sets, Word};

@@ -1,8 +1,7 @@
 // A plan in memory of a caller's own.
 ghost use Rattle.std.specs.Prelude.{◌≡◌, ◌<◌, [], IfSome, IfNone};
-ghost use Rattle.libagc.specs.Written.{action_from_c, actions_from_c, rows_from_c};
-ghost use Rattle.libagc.specs.Written.{job_told};
-ghost use Rattle.libagc.specs.Written.{listed_from_c, entries_from_c, plan_from_c};
+ghost use Rattle.libagc.specs.Plans.{action_from_c, actions_from_c, rows_from_c, job_told};
+ghost use Rattle.libagc.specs.Plans.{listed_from_c, entries_from_c, plan_from_c};
 ghost use Rattle.agc_plan.specs.Plans.{actions_in, entry_at};
 
 use crate::numbers::address;

@@ -1,8 +1,7 @@
 // Numbers of a caller as requests, and their parts.
 ghost use Rattle.std.specs.Prelude.{◌≡◌};
-ghost use Rattle.libagc.specs.FromC.{entry_from_c, start_from_c, task_told, listing_from_c};
-ghost use Rattle.libagc.specs.FromC.{request_from_c};
-ghost use Rattle.libagc.specs.FromC.{request_fault, without_word};
+ghost use Rattle.libagc.specs.Numbers.{entry_from_c, start_from_c, task_told, listing_from_c};
+ghost use Rattle.libagc.specs.Numbers.{request_from_c, request_fault, without_word};
 
 use crate::fault::Fault;
 use crate::numbers::{address, delay, group, phase, place, priority, word};

@@ -1,7 +1,6 @@
 // The replies of calls.
 ghost use Rattle.std.specs.Prelude.{◌≡◌, false};
-ghost use Rattle.libagc.specs.Codes.{code_of};
-ghost use Rattle.libagc.specs.Replies.{alarm_code, reply_to_c, refusal};
+ghost use Rattle.libagc.specs.Codes.{code_of, alarm_code, reply_to_c, refusal};
 
 use crate::fault::Fault;
 use agc_plan::{Alarm, Reply};
@@ -107,18 +106,6 @@ impl AgcNumber {
 pub struct AgcTruth {
     pub code: u32,
     pub truth: bool,
-}
-
-impl AgcTruth {
-    /// The reply to a call that was not served.
-    pub(crate) fn with_fault(fault: Fault) -> AgcTruth
-        ensures { result ≡ record { code = code_of fault; truth = false } }
-    {
-        AgcTruth {
-            code: fault.code(),
-            truth: false,
-        }
-    }
 }
 
 /// A task of the Waitlist: a code, and the task's address and its bank's word, both 0 if the code

@@ -1,20 +1,48 @@
 // All that the tables hold, in one struct.
-ghost use Rattle.std.specs.Prelude.{◌≡◌, ◌≤◌};
-ghost use Rattle.agc_wait.specs.Table.{IsLawfulTable};
-ghost use Rattle.libagc.specs.Codes.{Coded};
+ghost use Rattle.std.specs.Prelude.{◌≡◌, ◌≤◌, ◌<◌, map};
+ghost use Rattle.std.specs.List.{range_with_len};
+ghost use Rattle.agc_phase.specs.Image.{failreg_word};
+ghost use Rattle.agc_wait.specs.Table.{IsLawfulTable, waits_of};
+ghost use Rattle.libagc.specs.Codes.{Coded, number_to_c};
 ghost use Rattle.agc_image.specs.Images.{IsOpened, IsSets};
-ghost use Rattle.libagc.specs.Scenes.{owner_in, owners_in, scene_to_c, set_to_c, sets_to_c};
-ghost use Rattle.libagc.specs.Scenes.{task_in, tasks_to_c};
+ghost use Rattle.libagc.specs.Scenes.{job_to_c, no_job, owner_in, scene_to_c, set_to_c, sets_to_c};
+ghost use Rattle.libagc.specs.Scenes.{task_in, work_at};
 
 use crate::fault::image_in;
-use crate::jobs::number_of;
-use crate::phases::numbers_of;
-use crate::tables::{
-    AgcJob, AgcWaiting, failreg_at, job_number_to_c, job_to_c, task_to_c, waiting_at,
-};
-use agc_exec::{job_at, named_job, running};
-use agc_phase::phases;
+use agc_exec::{Seat, job_at, named_job, running};
+use agc_phase::{Phases, failreg, phases};
+use agc_wait::{Waiting, tasks_waiting};
 use agc_word::Erasable;
+use agc_word::layout::set_place;
+
+/// The job in a core set; all 0 if the set is free.
+#[repr(C)]
+#[derive(Clone, Copy)]
+pub struct AgcJob {
+    /// 1 to 8; 0 if the set is free.
+    pub number: u32,
+    /// 1 to 31.
+    pub priority: u32,
+    /// The address where it begins, or at which it sleeps, 1 to 16383.
+    pub at: u32,
+    pub bank: u32,
+    /// Its VAC area, 1 to 5; 0 for none.
+    pub area: u32,
+    pub asleep: bool,
+    /// Its work words, MPAC+1 to MPAC+6.
+    pub work: [u16; 6],
+}
+
+/// A task that waits; all 0 for none.
+#[repr(C)]
+#[derive(Clone, Copy)]
+pub struct AgcWaiting {
+    /// The address where the task begins, 1 to 16383; 0 for no task.
+    pub at: u32,
+    pub bank: u32,
+    /// The centiseconds that are left to it, 0 to 16250.
+    pub left: u32,
+}
 
 /// All that the tables hold.
 #[repr(C)]
@@ -23,7 +51,7 @@ pub struct AgcScene {
     /// The number of the running job, and of the one that NEWJOB names; 0 for none.
     pub running: u32,
     pub next: u32,
-    /// The jobs in the core sets, each with code 0; no job beyond the last set.
+    /// The jobs in the core sets; no job beyond the last set.
     pub sets: [AgcJob; 8],
     /// The numbers of the jobs that own VAC areas 1 to 5; 0 for none.
     pub areas: [u32; 5],
@@ -35,7 +63,56 @@ pub struct AgcScene {
     pub phases: [u8; 6],
 }
 
-/// The job in a core set, in numbers; no job beyond the last set.
+/// No job, of a free set.
+fn no_job() -> AgcJob
+    ensures { result ≡ no_job }
+{
+    AgcJob {
+        number: 0,
+        priority: 0,
+        at: 0,
+        bank: 0,
+        area: 0,
+        asleep: false,
+        work: [0; 6],
+    }
+}
+
+/// The six work words of the set that begins at a place.
+fn work_at(words: &[u16; 144], place: usize) -> [u16; 6]
+    requires { place ≤ 132 }
+    ensures { result ≡ work_at place words.now }
+{
+    [
+        words[place + 1],
+        words[place + 2],
+        words[place + 3],
+        words[place + 4],
+        words[place + 5],
+        words[place + 6],
+    ]
+}
+
+/// The job in a core set, in numbers.
+fn job_to_c(words: &[u16; 144], set: usize, seat: Option<Seat>) -> AgcJob
+    requires { set ≤ 7 }
+    ensures { result ≡ job_to_c set words.now seat }
+{
+    match seat {
+        None => no_job(),
+        Some(seat) => AgcJob {
+            number: u32::from(seat.number),
+            priority: u32::from(seat.priority),
+            at: u32::from(seat.at),
+            bank: u32::from(words[set_place(set) + 9]),
+            area: u32::from(seat.area),
+            asleep: seat.asleep,
+            work: work_at(words, set_place(set)),
+        },
+    }
+}
+
+/// The job in a core set; no job beyond the last set.
 fn set_to_c(words: &[u16; 144], sets: u32, image: &Erasable, set: usize) -> AgcJob
     requires sets { IsSets sets }
     requires opened { IsOpened sets words.now image.now }
@@ -45,7 +122,7 @@ fn set_to_c(words: &[u16; 144], sets: u32, image: &Erasable, set: usize) -> AgcJ
     if set < sets as usize {
         job_to_c(words, set, job_at(image, set))
     } else {
-        AgcJob::none(0)
+        no_job()
     }
 }
 
@@ -80,43 +157,71 @@ fn owner_in(sets: &[AgcJob; 8], area: u32) -> u32
     0
 }
 
-/// The owners of the areas.
-fn owners_in(sets: &[AgcJob; 8]) -> [u32; 5]
-    ensures { result ≡ owners_in sets.now }
-{
-    [
-        owner_in(sets, 1),
-        owner_in(sets, 2),
-        owner_in(sets, 3),
-        owner_in(sets, 4),
-        owner_in(sets, 5),
-    ]
-}
-
 /// The task that comes due as number `place` of those that wait, in numbers.
-fn task_in(image: &Erasable, place: usize) -> AgcWaiting
-    requires { IsLawfulTable image.now }
-    ensures { result ≡ task_in image.now place }
+fn task_in(waits: &[Waiting], place: usize) -> AgcWaiting
+    ensures { result ≡ task_in waits.now place }
 {
-    task_to_c(waiting_at(image, place))
+    match waits.get(place) {
+        None => AgcWaiting {
+            at: 0,
+            bank: 0,
+            left: 0,
+        },
+        Some(waiting) => AgcWaiting {
+            at: u32::from(waiting.task.at.get()),
+            bank: u32::from(waiting.task.bank.bits()),
+            left: waiting.distance,
+        },
+    }
 }
 
 /// The tasks that wait, in numbers.
 fn tasks_to_c(image: &Erasable) -> [AgcWaiting; 9]
     requires { IsLawfulTable image.now }
-    ensures { result ≡ tasks_to_c image.now }
+    ensures { result ≡ map (task_in (waits_of image.now)) (range_with_len 0 9) }
 {
+    let waits = tasks_waiting(image);
+    let waits = waits.as_slice();
     [
-        task_in(image, 0),
-        task_in(image, 1),
-        task_in(image, 2),
-        task_in(image, 3),
-        task_in(image, 4),
-        task_in(image, 5),
-        task_in(image, 6),
-        task_in(image, 7),
-        task_in(image, 8),
+        task_in(waits, 0),
+        task_in(waits, 1),
+        task_in(waits, 2),
+        task_in(waits, 3),
+        task_in(waits, 4),
+        task_in(waits, 5),
+        task_in(waits, 6),
+        task_in(waits, 7),
+        task_in(waits, 8),
     ]
+}
+
+/// The number of a job, 0 for none.
+fn number_of(job: Option<u16>) -> u32
+    ensures { result ≡ number_to_c job }
+{
+    match job {
+        Some(number) => u32::from(number),
+        None => 0,
+    }
+}
+
+/// A word of FAILREG, by its place.
+fn failreg_at(image: &Erasable, place: usize) -> u32
+    requires { place < 3 }
+    ensures { result ≡ failreg_word image.now place }
+{
+    u32::from(failreg(image)[place].bits())
+}
+
+/// The phases as numbers.
+fn numbers_of(phases: &Phases) -> [u8; 6]
+    ensures { result ≡ phases.now }
+{
+    let mut numbers = [0; 6];
+    for group in 0..6usize {
+        numbers[group] = phases[group].get();
+    }
+    numbers
 }
 
 /// All that an open image holds, in numbers.
@@ -127,10 +232,16 @@ fn scene_to_c(words: &[u16; 144], sets: u32, image: &Erasable) -> AgcScene
 {
     let jobs = sets_to_c(words, sets, image);
     AgcScene {
-        running: number_of(running(image)),
-        next: job_number_to_c(named_job(image)),
+        running: number_of(running(image).map(|job| u16::from(job.get()))),
+        next: number_of(named_job(image)),
         sets: jobs,
-        areas: owners_in(&jobs),
+        areas: [
+            owner_in(&jobs, 1),
+            owner_in(&jobs, 2),
+            owner_in(&jobs, 3),
+            owner_in(&jobs, 4),
+            owner_in(&jobs, 5),
+        ],
         tasks: tasks_to_c(image),
         failreg: [
             failreg_at(image, 0),

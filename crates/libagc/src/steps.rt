@@ -6,11 +6,11 @@ ghost use Rattle.agc_wait.specs.Table.{waits_of};
 ghost use Rattle.agc_wait.specs.Waits.{due_now};
 ghost use Rattle.libagc.specs.Codes.{code_of, code_for};
 ghost use Rattle.agc_image.specs.Images.{IsImage, IsLawful, IsOpened, IsSets, IsWritten, image_of};
-ghost use Rattle.libagc.specs.Lacking.{lacking};
+ghost use Rattle.libagc.specs.Plans.{lacking};
 ghost use Rattle.agc_machine.specs.Stands.{IsReady, IsSound, Acts, StepsTo};
 ghost use Rattle.libagc.specs.Stepping.{AreHandedOut, Steps, Serves, Refuses, StepCoded};
-ghost use Rattle.libagc.specs.Stepping.{request_code, Lacks, plan_for};
-ghost use Rattle.libagc.specs.Stepping.{step_to_c, step_refusal, action_to_c};
+ghost use Rattle.libagc.specs.Stepping.{request_code, Lacks, plan_for, step_to_c, step_refusal};
+ghost use Rattle.libagc.specs.Stepping.{action_to_c};
 
 use crate::fault::{Fault, image_in};
 use crate::lacking::plan_lacks;

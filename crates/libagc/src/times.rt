@@ -3,9 +3,9 @@ ghost use Rattle.std.specs.Prelude.{◌≡◌, ◌==◌};
 ghost use Rattle.std.specs.List.{list_all, list_any};
 ghost use Rattle.libagc.specs.Codes.{code_for};
 ghost use Rattle.agc_clock.specs.Timetables.{overlap};
-ghost use Rattle.libagc.specs.FromC.{is_request};
-ghost use Rattle.libagc.specs.LateTimes.{is_steal, is_step, is_cost, is_event};
-ghost use Rattle.libagc.specs.LateTimes.{are_in_range, steals_twice, costs_twice, times_lack};
+ghost use Rattle.libagc.specs.Numbers.{is_request};
+ghost use Rattle.libagc.specs.Times.{is_steal, is_step, is_cost, is_event, are_in_range};
+ghost use Rattle.libagc.specs.Times.{steals_twice, costs_twice, times_lack};
 
 use crate::fault::Fault;
 use crate::numbers::address;

@@ -1,9 +1,8 @@
 // A timetable in memory of a caller's own.
 ghost use Rattle.std.specs.Prelude.{◌≡◌};
-ghost use Rattle.libagc.specs.BorrowedTimes.{address_for, then_from_c, cost_from_c, times_from_c};
-ghost use Rattle.libagc.specs.BorrowedTimes.{distances_from_c, event_after, event_at};
-ghost use Rattle.libagc.specs.BorrowedTimes.{request_for, requests_from, step_in, steps_from_c};
-ghost use Rattle.libagc.specs.BorrowedTimes.{timetable_from_c};
+ghost use Rattle.libagc.specs.Times.{address_for, then_from_c, cost_from_c, times_from_c};
+ghost use Rattle.libagc.specs.Times.{distances_from_c, event_after, event_at, request_for};
+ghost use Rattle.libagc.specs.Times.{requests_from, step_in, steps_from_c, timetable_from_c};
 
 use crate::numbers::address;
 use crate::reading::{AgcRequest, request_of};

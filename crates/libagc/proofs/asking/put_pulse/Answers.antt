@@ -1,6 +1,6 @@
 use Rattle.std.proofs.Common.{ap, sym, ◌∙◌, ℕ, ◌∷◌, []}
 use Rattle.libagc.specs.declared.reading.AgcRequest.{AgcRequest}
-use Rattle.libagc.specs.Asking.{pulse_to_c}
+use Rattle.libagc.specs.Requests.{pulse_to_c}
 use Rattle.libagc.proofs.Pulsing.{first_set}
 use Rattle.libagc.proofs.asking.put_pulse.Goals as goal
 

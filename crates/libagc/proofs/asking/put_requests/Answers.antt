@@ -2,7 +2,7 @@ use Rattle.std.proofs.Common.{◌≡◌, ℕ, suc, ap, sym, ◌∙◌, ◌+◌, 
 use Rattle.std.proofs.Math.ListN.{get_or}
 use Rattle.std.proofs.Math.Seq.{drop-cons}
 use Rattle.libagc.specs.declared.reading.AgcRequest.{AgcRequest}
-use Rattle.libagc.specs.Spelled.{request_with}
+use Rattle.libagc.specs.Numbers.{request_with}
 use Rattle.libagc.proofs.Pulsing.{asks, put_on, drop_on}
 use Rattle.libagc.proofs.asking.put_requests.Goals as goal
 

@@ -1,5 +1,5 @@
 use Rattle.std.proofs.Common.{ℕ, List, refl, subst}
-use Rattle.libagc.specs.Eras.{PowersUp}
+use Rattle.libagc.specs.Stepping.{PowersUp}
 use Rattle.libagc.proofs.eras.agc_power_up.Goals as goal
 
 pub returns-in-None-plan_lacks-clause-served : goal.returns-in-None-plan_lacks-clause-served

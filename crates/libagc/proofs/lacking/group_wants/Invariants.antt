@@ -1,6 +1,6 @@
 use Rattle.std.proofs.Common.{◌≡◌, drop}
 use Rattle.agc_plan.specs.Plans.{group_wants}
-use Rattle.libagc.specs.Written.{entries_from_c}
+use Rattle.libagc.specs.Plans.{entries_from_c}
 use Rattle.libagc.proofs.lacking.group_wants.Given as goal
 
 abbrev pub invariant-loop-entry : goal.invariant-loop-entry

@@ -1,6 +1,6 @@
 use Rattle.std.proofs.Common.{◌≡◌, drop}
 use Rattle.agc_plan.specs.Plans.{has_entry}
-use Rattle.libagc.specs.Written.{entries_from_c}
+use Rattle.libagc.specs.Plans.{entries_from_c}
 use Rattle.libagc.proofs.lacking.has_entry.Given as goal
 
 abbrev pub invariant-loop-other : goal.invariant-loop-other

@@ -1,6 +1,6 @@
 use Rattle.std.proofs.Common.{◌≡◌, drop}
 use Rattle.agc_plan.specs.Plans.{has_task}
-use Rattle.libagc.specs.Written.{rows_from_c}
+use Rattle.libagc.specs.Plans.{rows_from_c}
 use Rattle.libagc.proofs.lacking.has_row.Given as goal
 
 abbrev pub invariant-loop-row : goal.invariant-loop-row

@@ -1,6 +1,6 @@
 use Rattle.std.proofs.Common.{◌≡◌, drop}
 use Rattle.agc_plan.specs.Plans.{phase_twice}
-use Rattle.libagc.specs.Written.{entries_from_c}
+use Rattle.libagc.specs.Plans.{entries_from_c}
 use Rattle.libagc.proofs.lacking.phase_twice.Given as goal
 
 abbrev pub invariant-loop-k : goal.invariant-loop-k

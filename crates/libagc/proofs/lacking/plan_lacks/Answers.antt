@@ -1,6 +1,6 @@
 use Rattle.std.proofs.Common.{sym, ◌∙◌}
 use Rattle.agc_plan.proofs.Quiet.{quiet}
-use Rattle.libagc.specs.Written.{plan_from_c}
+use Rattle.libagc.specs.Plans.{plan_from_c}
 use Rattle.libagc.proofs.Finding.{no_fault}
 use Rattle.libagc.proofs.lacking.plan_lacks.Goals as goal
 

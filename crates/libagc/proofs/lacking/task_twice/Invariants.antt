@@ -1,6 +1,6 @@
 use Rattle.std.proofs.Common.{◌≡◌, drop}
 use Rattle.agc_plan.specs.Plans.{task_twice}
-use Rattle.libagc.specs.Written.{rows_from_c}
+use Rattle.libagc.specs.Plans.{rows_from_c}
 use Rattle.libagc.proofs.lacking.task_twice.Given as goal
 
 abbrev pub invariant-loop-k : goal.invariant-loop-k

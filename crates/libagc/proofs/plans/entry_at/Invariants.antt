@@ -1,6 +1,6 @@
 use Rattle.std.proofs.Common.{◌≡◌, drop}
 use Rattle.agc_plan.specs.Plans.{entry_at}
-use Rattle.libagc.specs.Written.{entries_from_c}
+use Rattle.libagc.specs.Plans.{entries_from_c}
 use Rattle.libagc.proofs.plans.entry_at.Given as goal
 
 abbrev pub invariant-loop-entry : goal.invariant-loop-entry

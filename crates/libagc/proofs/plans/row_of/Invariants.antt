@@ -1,6 +1,6 @@
 use Rattle.std.proofs.Common.{◌≡◌, drop}
 use Rattle.agc_plan.specs.Plans.{actions_in}
-use Rattle.libagc.specs.Written.{rows_from_c}
+use Rattle.libagc.specs.Plans.{rows_from_c}
 use Rattle.libagc.proofs.plans.row_of.Given as goal
 
 abbrev pub invariant-loop-row : goal.invariant-loop-row

@@ -1,5 +1,5 @@
 use Rattle.std.proofs.Common.{sym, ◌∙◌}
-use Rattle.libagc.specs.Written.{plan_from_c}
+use Rattle.libagc.specs.Plans.{plan_from_c}
 use Rattle.agc_wait.specs.Table.{waits_of}
 use Rattle.agc_wait.proofs.Dues.{is_due-none}
 use Rattle.agc_machine.proofs.Stepping.{tables_of, tidy_of, ended_by}

@@ -1,5 +1,5 @@
 use Rattle.std.proofs.Common.{◌≡◌, drop}
-use Rattle.libagc.specs.LateTimes.{costs_twice}
+use Rattle.libagc.specs.Times.{costs_twice}
 use Rattle.libagc.proofs.times.costs_twice.Given as goal
 
 abbrev pub invariant-loop-k : goal.invariant-loop-k

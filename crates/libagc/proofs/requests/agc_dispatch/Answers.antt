@@ -1,6 +1,6 @@
 use Rattle.agc_wait.specs.Calls.{Dispatches}
 use Rattle.libagc.proofs.Serving.{changed_waits}
-use Rattle.libagc.proofs.tasks.agc_dispatch.Goals as goal
+use Rattle.libagc.proofs.requests.agc_dispatch.Goals as goal
 
 pub returns-else-not-due-clause-served : goal.returns-else-not-due-clause-served
 returns-else-not-due-clause-served c =

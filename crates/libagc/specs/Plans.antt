@@ -1,17 +1,24 @@
--- The plan in a caller's rows and entries: a number out of its range does nothing.
-use Rattle.std.specs.Prelude.{ℕ, ◌==◌, if◌then◌else◌, List, [], ◌∷◌, Option, None, map}
-use Rattle.std.specs.Option.{option_map, option_map_or}
+-- The plan in a caller's rows and entries, where a number out of its range does nothing; and its
+-- faults.
+use Rattle.std.specs.Prelude.{ℕ, ◌==◌, if◌then◌else◌, List, [], ◌∷◌, Option, None, map, nat_lt}
+use Rattle.std.specs.Prelude.{◌&&◌, ◌||◌, not, Bool, Some}
+use Rattle.std.specs.Option.{option_map, option_map_or, is_some}
 use Rattle.agc_plan.specs.declared.request.Action.{Action}
 use Rattle.agc_plan.specs.declared.request.Action.TheVariants as action
 use Rattle.agc_plan.specs.declared.request.JobStart.{JobStart}
 use Rattle.agc_plan.specs.declared.request.JobStart.TheVariants as job
 use Rattle.agc_plan.specs.declared.request.Task.{Task}
 use Rattle.agc_plan.specs.Begins.{Begins}
-use Rattle.agc_plan.specs.Plans.{Written, Rows}
+use Rattle.agc_plan.specs.Plans.{Written, Rows, task_twice, phase_twice, all_want}
 use Rattle.libagc.specs.declared.reading.AgcRequest.{AgcRequest}
 use Rattle.libagc.specs.declared.plans.AgcPhaseEntry.{AgcPhaseEntry}
 use Rattle.libagc.specs.declared.plans.AgcRow.{AgcRow}
-use Rattle.libagc.specs.FromC.{address_from_c, start_from_c, listing_from_c}
+use Rattle.libagc.specs.Numbers.{address_from_c, start_from_c, listing_from_c, six_from_c}
+use Rattle.libagc.specs.Numbers.{phase_from_c, task_told, is_request}
+use Rattle.std.specs.List.{list_all}
+use Rattle.libagc.specs.declared.fault.Fault.{Fault}
+use Rattle.libagc.specs.declared.fault.Fault.TheVariants.{PlanRange, TaskTwice, PhaseTwice}
+use Rattle.libagc.specs.declared.fault.Fault.TheVariants.{TooManyAreas}
 
 -- an action is a request of kind 1, 2, 5 or 9; any other does nothing
 abbrev pub action_from_c : AgcRequest → Action
@@ -68,3 +75,33 @@ plan_from_c rows entries = record {
       [];
   radar = [];
 }
+
+-- nothing, a NOVAC, a FINDVAC, a rouse or a listing, with numbers in range
+abbrev pub is_action : AgcRequest → Bool
+is_action a =
+    a.kind == 0 || (is_request a
+    && (a.kind == 1 || (a.kind == 2 || (a.kind == 5 || a.kind == 9))))
+
+-- the row of a task, with four actions
+abbrev pub is_row : AgcRow → Bool
+is_row row =
+    is_some (task_told row.at row.bank)
+    && (is_action row.first && (is_action row.second &&
+    (is_action row.third && is_action row.fourth)))
+
+-- the entry of a group's phase other than 0, with no job or one with numbers in range, and with no
+-- task or one
+abbrev pub is_entry : AgcPhaseEntry → Bool
+is_entry e =
+    is_some (six_from_c e.group)
+    && (is_some (phase_from_c e.phase) && (nat_lt 0 e.phase
+    && (((e.job == 0) || is_some (job_told e)) && ((e.delay == 0) || is_some (listed_from_c e)))))
+
+-- the first thing that is wrong
+abbrev pub lacking : List AgcRow → List AgcPhaseEntry → Option Fault
+lacking rows entries =
+    if not (list_all is_row rows && list_all is_entry entries) then Some PlanRange
+    else if task_twice (rows_from_c rows) then Some TaskTwice
+    else if phase_twice (entries_from_c entries) then Some PhaseTwice
+    else if all_want (entries_from_c entries) then Some TooManyAreas
+    else None

@@ -1,8 +1,0 @@
-use Rattle.std.proofs.Common.{ℕ, List, refl, subst}
-use Rattle.libagc.specs.Eras.{PowersUp}
-use Rattle.libagc.proofs.eras.agc_power_up_trusted.Goals as goal
-
-pub returns-in-Some-twelve-clause-served : goal.returns-in-Some-twelve-clause-served
-returns-in-Some-twelve-clause-served c = λ zero.
-    subst (λ (p : List ℕ). PowersUp c.args.sets c.args.entries.now p c.args.words.now c.rise.new.words c.rise.result.number) c.in-Some-twelve.ensures.words
-    (c.rise.ensures.served c.args.sets (c.in-Some.ensures.valid.0 refl) c.in-Some.ensures.value)

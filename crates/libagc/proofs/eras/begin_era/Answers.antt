@@ -1,7 +1,0 @@
-use Rattle.agc_machine.proofs.Stepping.{begins_by}
-use Rattle.libagc.proofs.Rising.{era_begun}
-use Rattle.libagc.proofs.eras.begin_era.Goals as goal
-
-pub returns : goal.returns
-returns c =
-    era_begun c.args.entries.now c.args.alarm c.args.sets c.args.words.now c.write_back.new.array c.open.new.image c.note.new.e c.begin.new.e c.requires.count c.open.ensures c.note.ensures (begins_by _ c.note.new.e c.begin.new.e c.begin.ensures.lawful c.begin.ensures.tidy c.begin.ensures.same_length c.begin.ensures.stands c.begin.ensures.placed) c.write_back.ensures
