@@ -50,11 +50,12 @@ function streamsOf(bench) {
 /** The greatest part of a centisecond that is stolen, in hundredths. @param {Bench["steal"]} steal */
 const mostStolen = (steal) => (typeof steal === "number" ? steal : Math.max(0, ...steal.map((it) => it.percent)));
 
-/** The longest response of a job, with these others before it; infinite where they ask for more than there is, or nearly so much. @param {Stream} own @param {Stream[]} others @param {number} stolen */
-function longest(own, others, stolen) {
+/** The longest response of a job, with these others before it, or that of the first one where all are asked for at once; infinite where they ask for more than
+ * there is, or nearly so much. @param {Stream} own @param {Stream[]} others @param {number} stolen @param {boolean} [isFirst] */
+function longest(own, others, stolen, isFirst = false) {
   const asked = [own, ...others].reduce((sum, it) => sum + it.cost / it.period, stolen / 100);
   if (asked > 1 || stolen === 100) return Infinity;
-  let [worst, count, end] = [0, 1, 0];
+  let [count, end] = [1, 0];
   for (let step = 0; step < MOST_STEPS; step++) {
     const work = others.reduce((sum, it) => sum + Math.max(1, Math.ceil(end / it.period)) * it.cost, count * own.cost);
     const next = work + stolen * Math.floor((work - 1) / (100 - stolen));
@@ -62,8 +63,8 @@ function longest(own, others, stolen) {
       end = next;
       continue;
     }
-    worst = Math.max(worst, end - (count - 1) * own.period);
-    if (end <= count * own.period) return worst;
+    // (of two jobs of one kind the later may go first, so each may take as long as there is work without a gap)
+    if (isFirst || end <= count * own.period) return end;
     count += 1;
   }
   return Infinity;
@@ -73,15 +74,16 @@ function longest(own, others, stolen) {
  * @param {Stream[]} all @param {number} stolen @returns {boolean} */
 function haveOrder(all, stolen) {
   if (all.length === 0) return true;
-  const last = all.find((it) => longest(it, all.filter((one) => one !== it), stolen) <= it.deadline);
+  const last = all.find((it) => longest(it, all.filter((one) => one !== it), stolen, true) <= it.deadline);
   return last !== undefined && haveOrder(all.filter((it) => it !== last), stolen);
 }
 
 /**
  * What is known of a scenario's jobs; null where nothing is.
  * @param {Bench} bench
- * @returns {{ longest: Map<number, number>, safe: number, hasOrder: boolean } | null} by the address at which a job begins its longest
- *   response; and which load is safe, stolen time with it, where the shorter period has the greater priority and no deadline is before it ends
+ * @returns {{ longest: Map<number, number>, safe: number | null, hasOrder: boolean } | null} by the address at which a job begins its longest
+ *   response; and which load is safe, stolen time with it, if all jobs come again, the shorter period has the greater priority, and no deadline is
+ *   before it ends
  */
 export function boundsOf(bench) {
   const streams = streamsOf(bench);
@@ -92,7 +94,8 @@ export function boundsOf(bench) {
     const others = streams.filter((one) => one !== it && one.priority >= it.priority);
     found.set(parseInt(it.at, 8), Math.max(found.get(parseInt(it.at, 8)) ?? 0, longest(it, others, stolen)));
   }
-  const count = Math.max(1, streams.filter((it) => it.period < ONCE).length);
-  const part = count * (2 ** (1 / count) - 1);
-  return { longest: found, safe: part * (1 - stolen / 100) + stolen / 100, hasOrder: haveOrder(streams, stolen) };
+  const part = streams.length * (2 ** (1 / streams.length) - 1);
+  const isByPeriods = streams.length > 0 && streams.every((it) => it.period < ONCE && it.deadline >= it.period
+    && streams.every((one) => one.period >= it.period || one.priority > it.priority));
+  return { longest: found, safe: isByPeriods ? part * (1 - stolen / 100) + stolen / 100 : null, hasOrder: haveOrder(streams, stolen) };
 }

@@ -56,7 +56,8 @@ export const loadOf = (run) => Math.round(100 * tableOf({ run, count: run.count,
 export function linesOf(now) {
   const { parts, stolen, all, bounds } = tableOf(now);
   const colours = coloursOf(now.run);
-  const safe = bounds === null || now.run.bench.job.every((it) => it.deadline === undefined) ? "" : `${percent(bounds.safe)} is always safe`;
+  const load = now.run.bench.job.every((it) => it.deadline === undefined) ? undefined : bounds?.safe;
+  const safe = typeof load === "number" ? `${percent(load)} is always safe` : "";
   return [
     ...parts.map(({ row, name }) => lineOf(row, [make("span", { class: `swatch j${1 + colours.of(row.at)}` }), name], longestOf(bounds, row.at))),
     make("tr", {}, make("td", { colSpan: 6 }, stolen > 0 ? `and stolen ${percent(stolen)}` : "all"), make("td", {}, percent(all)), make("td", { colSpan: 5, title: SAFE }, safe)),

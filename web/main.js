@@ -144,12 +144,13 @@ function hear() {
     print(state());
   });
   for (const it of ["(prefers-color-scheme: dark)", "(forced-colors: active)"]) matchMedia(it).addEventListener("change", () => drawAgain());
-  // (what is scrolled to stands below the bar, however high that is)
-  const bar = /** @type {HTMLElement} */ (document.querySelector(".bar"));
-  new ResizeObserver(() => {
+  // (what is scrolled to stands below the bar, however high that is; and what has the focus stays in sight)
+  const [bar, main] = [".bar", "main"].map((it) => /** @type {HTMLElement} */ (document.querySelector(it)));
+  const observer = new ResizeObserver(() => {
     document.documentElement.style.setProperty("--bar-high", `${bar.offsetHeight}px`);
-    document.querySelector("main :focus")?.scrollIntoView({ block: "nearest" });
-  }).observe(bar);
+    main.querySelector(":focus")?.scrollIntoView({ block: "nearest" });
+  });
+  for (const it of [bar, main]) observer.observe(it);
   files.hearDrops((text, name) => act("text", text, name));
   for (const it of [hearChart, hearTouch, hearEditor, hearDialog, hearAddress]) it();
   const prompt = new Prompt((line) => {

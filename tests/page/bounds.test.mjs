@@ -18,12 +18,18 @@ const responses = (bounds) => [...bounds?.longest.values() ?? []].map((it) => it
 test("the longest response counts what comes in between", () => {
   const bounds = scenario([[300, 700, 30], [300, 1200, 20], [500, 2000, 10]]);
   assert.deepEqual(responses(bounds), [300, 600, 2000]);
-  assert.equal(bounds?.safe.toFixed(4), "0.7798");
+  assert.equal(bounds?.safe?.toFixed(4), "0.7798");
 });
 
-/** With a longer period than its response a job meets its own next one: 52 of 100 with 26 of 70 before it. */
-test("a job may wait for the one before it", () => {
-  assert.deepEqual(responses(scenario([[26, 70, 20], [62, 100, 10]])), [26, 118]);
+/** 62 of 100 after 26 of 70 leave work from the first to the end of the seventh, 7 * 62 + 10 * 26: and of two that are alive either may go first. */
+test("a job may wait for those of its own kind, before it and after it", () => {
+  assert.deepEqual(responses(scenario([[26, 70, 20], [62, 100, 10]])), [26, 694]);
+});
+
+test("which load is safe is said only where priorities go by periods, and no deadline is before the next job", () => {
+  assert.equal(scenario([[300, 700, 20], [300, 1200, 30]])?.safe, null);
+  assert.equal(scenario([[300, 700, 30, 600], [300, 1200, 20]])?.safe, null);
+  assert.equal(scenario([[300, 700, 30, 700], [300, 1200, 20]])?.safe?.toFixed(4), "0.8284");
 });
 
 /** Of each centisecond 10 hundredths are stolen: 10,000 take 111 centiseconds more than they fill, and one that isn't full. */

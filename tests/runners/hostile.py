@@ -37,7 +37,7 @@ NO_THREAD = (3, b"agc: no thread\n")
 BAD, FAILED, FULL, FOLDER = (
     b": Bad file descriptor (os error 9)", b": Input/output error (os error 5)", b": No space left on device (os error 28)",
     b": Is a directory (os error 21)")
-NOT_TEXT = (1, b"agc: -: not text: it isn't UTF-8\n")
+NOT_TEXT = (1, b"-: not text: it isn't UTF-8\n")
 DONE = (0, b"")
 
 # What `read_bench` may say of a text that is no bench.
@@ -112,13 +112,14 @@ def program_of(word):
 def told(word, ran):
     """Its status and standard error, with agc's name for its own; another name is a fault."""
     name = f"{program_of(word)}: ".encode()
-    line = b"agc: " + ran.stderr[len(name) :] if ran.stderr.startswith(name) else b"no name: " + ran.stderr
+    is_of_input = ran.stderr.startswith(b"-: ") and name != b"agc: "
+    line = b"agc: " + ran.stderr[len(name) :] if ran.stderr.startswith(name) else ran.stderr if is_of_input else b"no name: " + ran.stderr
     return ran.returncode, line if ran.stderr else b""
 
 
 def unread(word, reason):
     """How a program ends that can't read standard input for this reason, which agc doesn't tell."""
-    return 4, b"agc: " + (b"-" + reason if program_of(word) == "agc_watch" else b"input") + b"\n"
+    return 4, (b"-" + reason if program_of(word) == "agc_watch" else b"agc: input") + b"\n"
 
 
 def unwritten(word, reason=b""):

@@ -12,7 +12,7 @@ def paste(browser, text):
 
 
 # Fills the fields of a new job, and adds it.
-ADD = """(() => { const fields = [...document.querySelectorAll('#build-fields input')];
+ADD = """(() => { const fields = [...document.querySelectorAll('#build-fields :is(input, select)')];
   GIVEN.forEach((it, k) => { if (typeof it === 'boolean') fields[k].checked = it; else fields[k].value = it; });
   document.getElementById('build-add').click(); })()"""
 
@@ -20,13 +20,13 @@ ADD = """(() => { const fields = [...document.querySelectorAll('#build-fields in
 def try_building(browser, trial):
     """New has a form for jobs without an octal number; it writes a scenario, which agc_watch takes, beside its run. A wrong number is told."""
     browser.click("new")
-    browser.value(ADD.replace("GIVEN", json.dumps(["guidance", "0", "1.7", "16", "2", True])))
+    browser.value(ADD.replace("GIVEN", json.dumps(["guidance", "0", "1.7", "20", "2", True])))
     trial.expect(f"a wrong period: {browser.text('build-fault')}", browser.text("build-fault") == "every: a number, 0.01 to 162.5 (seconds)")
-    for given in ["guidance", "2", "1.7", "16", "2", True], ['a "quoted" one', "1", "0.4", "24", "", False]:
+    for given in ["guidance", "2", "1.7", "20", "2", True], ['a "quoted" one', "1", "0.4", "30", "", False]:
         browser.value(ADD.replace("GIVEN", json.dumps(given)))
         filled(browser)
     browser.wait("!document.getElementById('jobs-box').hidden")
-    trial.expect(browser.text("jobs-sum"), browser.text("jobs-sum").startswith('Jobs in 60 s: guidance 85 % + a "quoted" one 40 % = 125 %; '))
+    trial.expect(browser.text("jobs-sum"), browser.text("jobs-sum").startswith('Jobs, in all: guidance 85 % + a "quoted" one 40 % = 125 %; '))
     document = browser.value("document.getElementById('edit-text').value")
     ran = subprocess.run([PROGRAM, "check"], input=document, capture_output=True, text=True, check=False)
     trial.expect(f"check: {ran.stdout} {document}", ran.returncode == 0 and "findvac 20 04000" in document and "deadline = 200" in document)

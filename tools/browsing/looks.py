@@ -16,7 +16,7 @@ LOOKS = """(() => {
     ...Array.from(document.querySelectorAll('.bar button, .transport .steps:not(.zoom) button'), (it) => it.ariaLabel ?? it.innerText.replace(/[^A-Za-z]/g, '')),
     ...Array.from(document.querySelectorAll('#rows th'), (it) => it.textContent)].join(', ');
 })()"""
-LOOK = ('true, " Δ", line-through, dashed, status polite, status polite, status polite, Alarm 1202: why, Core sets: 7 of 7 in use, , VAC areas: 0 of 5 in use, Waitlist: 0 of 9 in use, Phases, '
+LOOK = ('true, " Δ", line-through, dashed, status polite, status polite, status polite, Alarm 1202: why, Core sets: 7 of 7 in use, VAC areas: 0 of 5 in use, Waitlist: 0 of 9 in use, Phases, '
         "Alarm codes (FAILREG), Next job (NEWJOB), PorEscback, First, Back, Run, Next, Last, Nextalarm, "
         "no, time, request, reply, running, sets, areas, tasks, asked by")
 
