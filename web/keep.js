@@ -69,7 +69,8 @@ async function keepNow() {
   const now = state();
   if (now.clock.isRunning || now.run.isFilling) return keepSoon();
   const { first, mark } = await shownMark(now);
-  if (mark === kept.mark || (mark === "#" && kept.mark === "")) return;
+  // (a link that was followed meanwhile is opened first)
+  if (location.hash !== kept.mark || mark === kept.mark || (mark === "#" && kept.mark === "")) return;
   try {
     if (first === kept.documentMark || kept.mark === "") history.replaceState(null, "", mark);
     else history.pushState(null, "", mark);

@@ -144,18 +144,19 @@ function hear() {
     print(state());
   });
   for (const it of ["(prefers-color-scheme: dark)", "(forced-colors: active)"]) matchMedia(it).addEventListener("change", () => drawAgain());
-  // (what is scrolled to stands below the bar, however high that is; and what has the focus stays in sight)
-  const [bar, main] = [".bar", "main"].map((it) => /** @type {HTMLElement} */ (document.querySelector(it)));
-  const observer = new ResizeObserver(() => {
+  // (what is scrolled to stands below the bar, however high that is)
+  const bar = /** @type {HTMLElement} */ (document.querySelector(".bar"));
+  new ResizeObserver(() => {
     document.documentElement.style.setProperty("--bar-high", `${bar.offsetHeight}px`);
-    main.querySelector(":focus")?.scrollIntoView({ block: "nearest" });
-  });
-  for (const it of [bar, main]) observer.observe(it);
+    document.querySelector("main :focus")?.scrollIntoView({ block: "nearest" });
+  }).observe(bar);
   files.hearDrops((text, name) => act("text", text, name));
   for (const it of [hearChart, hearTouch, hearEditor, hearDialog, hearAddress]) it();
   const prompt = new Prompt((line) => {
     try {
       act("ask", line);
+      // (the chart comes in above it, and the tables unfold)
+      requestAnimationFrame(() => by("line").scrollIntoView({ block: "nearest" }));
     } catch (fault) {
       prompt.hint(/** @type {Error} */ (fault).message, true);
     }

@@ -43,7 +43,7 @@ function sizes(now) {
   if (window.innerWidth <= 640) return { high: 19, text: 12, strips: ["areas"], parts: isHidden(now) ? ASKED : isToured ? TOURED : [...PARTS.filter((it) => it !== "before"), "notes"] };
   const size = parseFloat(getComputedStyle(document.documentElement).fontSize);
   // (where little else is below it, it fills the window; and elsewhere it stands above the foot of a low one)
-  const [least, most, beside] = !(isToured || isProjected) || window.innerWidth < 54 * size ? [1.5, 1.87, PAGE_BESIDE] : [1.6, 3, isToured ? TOUR_BESIDE : PROJECTOR_BESIDE];
+  const [least, most, beside] = !(isToured || isProjected) || window.innerWidth < 54 * size ? [1.5, window.innerWidth < 54 * size ? 1.87 : 2.5, PAGE_BESIDE] : [1.6, 3, isToured ? TOUR_BESIDE : PROJECTOR_BESIDE];
   // (with the run before it is as high as without)
   const [line, half] = before === null || isToured || isProjected ? [0, 0] : [1.4, before.run.sets / 2];
   const lanes = Math.max(least, Math.min(most, (window.innerHeight / size - beside - line) / (run.sets + 3.6 + half)));

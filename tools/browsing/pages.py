@@ -219,12 +219,10 @@ def follow_link(browser, link=None):
     """Opens what this link carries, or the one that is saved: by way of an empty bench, where the address has it already."""
     link = link or saved(browser)[1]
     mark = link[link.index("#"):]
-    if browser.value("location.hash") == mark:
-        browser.value("location.hash = '#new'")
-        browser.wait("document.getElementById('title').textContent === 'An empty bench'")
-    browser.value("document.getElementById('sentence').textContent = ''")
-    browser.value(f"location.hash = {json.dumps(mark)}")
-    wait_for(browser, "The beginning")
+    for it in ["#new"] * (browser.value("location.hash") == mark) + [mark]:
+        browser.value("document.getElementById('sentence').textContent = ''")
+        browser.value(f"location.hash = {json.dumps(it)}")
+        wait_for(browser, "The beginning")
 
 
 def press_try(browser, text):
