@@ -19,7 +19,7 @@ const TOP = new URL("../", import.meta.url);
 const [SCENARIO, PICTURE, DOCUMENT] = ["examples/landing.toml", "docs/landing.svg", "docs/LANDING.md"].map((it) => new URL(it, TOP));
 const TITLE = "When the first alarm comes, over the percentage of time that is stolen";
 const MOST = 30;
-const ROWS = [0, 2, 5, 8, 10, 13, 15, 16, 17, 20, 25, 30];
+const ROWS = [3, 5, 8, 10, 15, 17, 20, 25, 30];
 const SLEEPERS = '\n[[event]]\nat = 0\ndo = ["novac 15 06000 00011", "sleep 06000", "novac 15 06100 00011", "sleep 06100"]\n';
 
 /** The picture: its size, where its axes are, the seconds that are marked, its text (9 points on A4), and how each line looks. */
@@ -67,11 +67,11 @@ function cellOf({ code, time, alarms }) {
   return code === "" ? "none" : `${code} at ${(time / 100).toFixed(2)} s; ${alarms}`;
 }
 
-/** The table: what is the same with seven and with eight core sets has one column. @param {Record<string, ReturnType<typeof swept>[]>} found */
+/** The table: with eight core sets each column is one that is there. @param {Record<string, ReturnType<typeof swept>[]>} found */
 function tableOf({ alone, monitor, asleep }) {
-  for (const [seven, eight] of [alone, monitor]) if (JSON.stringify(seven) !== JSON.stringify(eight)) throw new Error("seven and eight core sets differ: the table needs another column");
-  const columns = [alone[0], monitor[0], ...asleep];
-  return ["| Stolen | Without the monitor | With it | With it and two sleeping jobs, seven sets | The same, eight sets |", "|---|---|---|---|---|",
+  for (const [one, other] of [alone, monitor, [monitor[0], asleep[1]]]) if (JSON.stringify(one) !== JSON.stringify(other)) throw new Error("the table needs another column");
+  const columns = [alone[0], monitor[0], asleep[0]];
+  return ["| Stolen | Without the monitor | With it | With it and two sleeping jobs |", "|---|---|---|---|",
     ...ROWS.map((steal) => `| ${steal} % | ${columns.map((it) => cellOf(it[steal])).join(" | ")} |`), ""].join("\n");
 }
 
