@@ -11,6 +11,7 @@
 import { Kind } from "../libagc/js/machine.js";
 import { actionOf } from "./because.js";
 import { alarmsOf } from "./drawing-words.js";
+import { missedText } from "./jobs.js";
 import { LOG_FULL, SPENT } from "./run.js";
 import { PLACES, counted, octal, seconds, visible } from "./words.js";
 
@@ -193,21 +194,29 @@ function brokenPairs(power) {
   return lines;
 }
 
+/** What comes of a run in which time passes: the deadlines that are missed, and its alarms. @param {import("./run.js").Run} run @param {number} count @param {Names} names */
+export function cameText(run, count, names) {
+  const missed = missedText(run, count, names);
+  const alarms = alarmsOf(run, count);
+  const none = `No alarm ${run.isFilling ? "so far" : "comes"} in ${run.bench.seconds}\u00a0s${missed === "" && !run.isFilling && run.bench.job.some((it) => it.deadline !== undefined) ? ", and no deadline is missed" : ""}.`;
+  return `${missed} ${alarms === "no alarm" ? none : `${alarms[0].toUpperCase()}${alarms.slice(1)}.`}`.trim();
+}
+
 /** The beginning of a run, where its answer is shown. @param {import("./run.js").Run} run @param {Shown} shown @param {Names} names @param {Given} given @returns {Account} */
 function accountOfBeginning(run, shown, names, { about, count }) {
   const { power } = run.bench;
   const said = about === "" ? [] : [[{ text: about, isProse: true }]];
   const order = count > 0 && run.isOpened ? orderOf(run.bench) : "";
-  const follow = count === 0 ? [] : [[`${counted(count, "request")} `
-    + `${count === 1 ? "follows" : "follow"}, with ${alarmsOf(run, count)}.`],
-  ...(order === "" ? [] : [[order]])];
+  const isTimed = run.bench.seconds !== undefined;
+  const follow = count === 0 ? [] : [isTimed ? [{ text: cameText(run, count, names), isProse: true }]
+    : [`${counted(count, "request")} ${count === 1 ? "follows" : "follow"}, with ${alarmsOf(run, count)}.`], ...(order === "" ? [] : [[order]])];
   if (power === undefined) {
     const asked = count === 0 ? "Nothing has been asked" : "No request has been served yet";
     const isNew = count === 0 && run.source.document === "" && about === "";
     const first = isNew ? [["Say above which jobs come again and again, and press Run. Or ask for one request after the other, below: the tables show what it does."]] : [];
     const lines = about !== "" ? said
       : [...first, [`${asked}: there is no job, no task waits, and all phases are 0.`]];
-    return { heading: "The beginning", lines: [...lines, ...follow], isAlarm: false };
+    return { heading: "The beginning", lines: isTimed && about === "" ? [...follow, ...lines] : [...lines, ...follow], isAlarm: false };
   }
   const isBroken = shown.reply.startsWith("alarm");
   const lines = isBroken
@@ -299,8 +308,9 @@ function replySentence(run, shown, names) {
     case Kind.IDLE: return [[`${endedSentence(shown)}No job is left that is awake.`]];
     case Kind.LEFT: case Kind.RUNS: {
       const ended = endedSentence(shown);
+      const equals = scene.sets.filter((it) => it !== null && !it.asleep && it.priority === runner?.priority);
       const runs = `Job ${step?.number} runs${ended === "" ? "" : " next"}`;
-      return [[`${ended}${runs}${runner ? `, at ${names.ofJob(runner.at)}` : ""}.`]];
+      return [[`${ended}${runs}${runner ? `, at ${names.ofJob(runner.at)}` : ""}.`], ...(ended !== "" && equals.length > 1 ? [["Of equal priority, the lowest number goes first."]] : [])];
     }
     default: return [];
   }

@@ -26,6 +26,9 @@ const AROUND = { time: [1100, 350], rows: [22, 7] };
 /** How much of a run is there at once as it is opened, in ticks: what is left comes behind the first picture. */
 export const SOON = 3600;
 
+/** The last step of the tour, and the one in which its guesses begin. */
+const [LAST_STEP, GUESSED] = [5, 3];
+
 /** More ticks are many; and how much is seen of a long run whose first alarm comes soon: up to that, and some more. */
 const [LONG, BEYOND] = [9000, 1.15];
 
@@ -42,7 +45,7 @@ export function firstState(given) {
     clock: { isRunning: false, speed: null }, dialog: null, touched: null,
     opened: [], swept: ["Stolen time"], selection: null, built: null, isEditing: false, isProjected: false, isEmbedded: false, before: null,
     hidden: [], predicted: [], history: NOTHING_DONE, moved: UNMOVED, edited: null, note: NOBODY, said: NOBODY,
-    tour: { step: 0, tried: [] }, ...given,
+    tour: { step: 0, left: 0, tried: [] }, ...given,
   };
 }
 
@@ -99,6 +102,9 @@ function seek(s, holds, by, what) {
 
 const shownAgain = { isAfter: false, edited: null, note: NOBODY, said: NOBODY };
 
+/** The tour is left: what was guessed stays, and where it goes on; from its last step it is done. @param {State} s */
+const leftTour = ({ tour }) => ({ ...tour, step: 0, left: tour.step === 0 ? tour.left : tour.step % LAST_STEP });
+
 /** Begins with a document's run, or with another one. @param {State} s @param {Bench} bench @param {any} more */
 function begun(s, bench, more) {
   const count = countOf(bench);
@@ -108,7 +114,7 @@ function begun(s, bench, more) {
   const run = runOf(bench, requestsOf(bench), { isOpened: true, source: NO_SOURCE, about: "", ...more }, SOON);
   const isTour = s.tour.step > 0 && run.source.exercise === s.run.source.exercise && run.source.document === s.run.source.document;
   return { ...shownAgain, run, count: run.count, at: 0, seen: firstSeen(run), before: null, touched: null, selection: null, dialog: null,
-    history: left(s.history, s), moved: UNMOVED, tour: isTour ? s.tour : { step: 0, tried: [] },
+    history: left(s.history, s), moved: UNMOVED, tour: isTour ? s.tour : leftTour(s),
     clock: { ...s.clock, isRunning: false, speed: null } };
 }
 
@@ -316,14 +322,14 @@ const GUESS_SEEN = 4500;
 
 /** A guess of the tour is run: from the beginning of the document itself, so that guesses don't add up. @param {State} s @param {string} name */
 function guess(s, name) {
-  const first = s.tour.tried.length === 0 ? s.run : s.before?.run ?? s.run;
+  const first = [s.run, s.before?.run].find((it) => it !== undefined && it.bench === it.given) ?? runWith(s.run, s.run.given, GUESS_SEEN);
   const base = { ...s, run: first, count: first.count, at: Math.min(first.count, first.rowAtTime(s.run.ticksAt(s.at), first.count)) };
   const made = s.tour.tried.find((it) => it.name === name) ?? null;
   const next = made === null ? change(base, GUESSES[name].given(first.given)) : { ...s, run: made.run, count: made.run.count,
     at: made.run.rowAtTime(s.run.ticksAt(s.at), made.run.count), history: left(s.history, s), before: s.before, ...shownAgain, clock: stopped(s) };
   const tried = made === null ? [...s.tour.tried, { name, run: next.run }] : s.tour.tried;
   const seen = s.seen === null ? null : { from: s.seen.from, to: Math.max(s.seen.to, GUESS_SEEN) };
-  return { ...next, seen, before: { run: first, count: first.count }, tour: { ...s.tour, step: 4, tried } };
+  return { ...next, seen, before: { run: first, count: first.count }, tour: { ...s.tour, step: s.tour.step === 0 ? 0 : GUESSED + 1, tried } };
 }
 
 /** @param {string[]} names @param {string} name */
@@ -423,14 +429,19 @@ export const ACTIONS = {
   form: (s, word) => ({ dialog: { name: "form", given: word }, clock: stopped(s) }),
   close: () => ({ dialog: null }),
 
-  tour: (s, step) => ({ tour: { ...s.tour, step }, clock: stopped(s) }),
-  "tour-again": (s) => ({ ...openedKept(s, "landing-1202"), tour: { step: 1, tried: [] } }),
+  tour: (s, step) => ({ tour: step === 0 ? leftTour(s) : { ...s.tour, step }, clock: stopped(s) }),
+  /** The tour from its beginning, or where it was left. */
+  "tour-again"(s) {
+    const made = openedKept(s, "landing-1202");
+    const { left: step, tried } = s.tour;
+    return { ...made, at: step < GUESSED ? 0 : made.run.alarms[0], tour: { step: step || 1, left: 0, tried: step === 0 ? [] : tried } };
+  },
 };
 
 /** What follows of itself: the tour ends with its landing, and goes on as a number is changed. @param {State} s */
 export function settled(s) {
   const { tour, run, count } = s;
   if (tour.step === 0) return null;
-  if (count === 0 || run.source.exercise !== "landing-1202") return { tour: { ...tour, step: 0 } };
-  return tour.step === 3 && run !== s.before?.run && s.before !== null ? { tour: { ...tour, step: 4 } } : null;
+  if (count === 0 || run.source.exercise !== "landing-1202") return { tour: leftTour(s) };
+  return tour.step === GUESSED && run !== s.before?.run && s.before !== null ? { tour: { ...tour, step: GUESSED + 1 } } : null;
 }

@@ -8,6 +8,11 @@ import { State } from "./lanes.js";
 import { stolenParts } from "./stolen.js";
 import { octal, seconds, took } from "./words.js";
 
+/** Why a more urgent job runs at once where jobs take time, although none interrupts another; and who is first of equals. */
+export const TAKES_OVER = "A job that is asked for doesn't interrupt the running one. But where jobs take time, the running one asks for a change of jobs itself, each "
+  + "centisecond: there a more urgent one takes over.";
+export const EQUALS = "Of equal priority, the running job goes on; and then comes the one with the lowest number.";
+
 const COUNTS = ["No", "One", "Two", "Three", "Four", "Five", "Six", "Seven", "Eight"];
 
 /** At most so many jobs that have just begun are looked at to see how often they come. */

@@ -67,7 +67,7 @@ function add(fields, jobs) {
 /** @param {Built} job @param {Built[]} jobs */
 function lineOf(job, jobs) {
   const { name, every, needs, priority, deadline, hasArea } = job;
-  const told = `${name}: every ${short(every)} it needs ${short(needs)}, priority ${octal(priority, 2)}${deadline === undefined ? "" : `, deadline ${short(deadline)}`}${hasArea ? ", with a VAC area" : ""}. `;
+  const told = `${name}: every ${short(every)} it needs ${short(needs)}, priority ${octal(priority, 2)}${deadline === undefined ? "" : `, deadline ${short(deadline)}`}${hasArea ? ", takes a VAC area" : ""}. `;
   return make("li", {}, told, button("Remove", () => act("build", jobs.filter((it) => it !== job))));
 }
 
@@ -97,5 +97,5 @@ function makeFields() {
   });
   const [every, needs, deadline] = Object.keys(FIELDS).map((it) => labelled(`${FIELDS[it].label}, s`, fields[it]));
   fill("build-fields", [labelled("job", fields.name), every, needs, labelled("priority", fields.priority), deadline,
-    make("label", { class: "check" }, fields.hasArea, " with a VAC area"), button("Add", go, { id: "build-add", class: "primary" })]);
+    make("label", { class: "check" }, fields.hasArea, " takes a VAC area, too"), button("Add", go, { id: "build-add", class: "primary" })]);
 }

@@ -6,7 +6,7 @@
  *
  * @typedef {import("./run.js").Run} Run
  * @typedef {{ kind: "job" | "task", id: number }} Selection
- * @typedef {{ width: number, from?: number, to?: number, high?: number, text?: number, strips?: string[],
+ * @typedef {{ width: number, from?: number, to?: number, high?: number, text?: number, least?: number, strips?: string[],
  *   all?: number, opened?: string[], parts?: string[], selection?: Selection | null, before?: { run: Run, count: number } | null,
  *   theme?: "light" | "dark" | "forced", names?: Names, colours?: Colours, isStill?: boolean,
  *   isBare?: boolean, title?: string }} View `isStill`: it doesn't change, so what is empty all the time may
@@ -124,15 +124,17 @@ export class Sheet {
   /** Writes on a block: of these texts the first one that fits, in the middle where it just does. Returns whether one does.
    * @param {string[]} texts @param {number[]} box left, right, top and height @param {Look & { ground?: string }} [look] */
   label(texts, [left, right, top, high], look) {
-    if (high < this.size + 2) return false;
-    const [text, short] = [BESIDE, LEAST_BESIDE].map((it) => this.fitting(texts, right - left - it, look?.isBold));
-    if (text !== undefined) return this.text(text, left + BESIDE / 2, top + high / 2, look);
-    return this.text(short ?? "", (left + right) / 2, top + high / 2, { ...look, anchor: "middle" });
+    const { least = this.size } = this.view;
+    if (high < least + 2) return false;
+    const [size, beside] = [[this.size, BESIDE], [least, BESIDE], [least, LEAST_BESIDE]].find((it) => high > it[0] + 1 && this.fitting(texts, right - left - it[1], look?.isBold, it[0])) ?? [least, 0];
+    const text = this.fitting(texts, right - left - beside, look?.isBold, size) ?? "";
+    return beside === BESIDE ? this.text(text, left + BESIDE / 2, top + high / 2, { ...look, size })
+      : this.text(text, (left + right) / 2, top + high / 2, { ...look, size, anchor: "middle" });
   }
 
-  /** The first of these texts that has room. @param {string[]} texts @param {number} room @param {boolean} [isBold] */
-  fitting(texts, room, isBold) {
-    return texts.find((it) => textWidth(it, this.size, isBold) <= room);
+  /** The first of these texts that has room. @param {string[]} texts @param {number} room @param {boolean} [isBold] @param {number} [size] */
+  fitting(texts, room, isBold, size = this.size) {
+    return texts.find((it) => textWidth(it, size, isBold) <= room);
   }
 
   /** What a job is called that began at this address. @param {number} at */

@@ -1,4 +1,5 @@
 /** What the help says. */
+import { EQUALS, TAKES_OVER } from "./because.js";
 import { make, withCode } from "./dom.js";
 import { GLOSSARY } from "./touch.js";
 import { MEANINGS, PARTS, REQUESTS, formOf } from "./words.js";
@@ -35,6 +36,7 @@ export function help() {
     make("p", {}, "The clock lets centiseconds pass. A job with a cost ends when it has run for that long, or first asks for what its list says; stolen time is "
       + "taken away from the jobs. The sliders change these numbers; the run before stays on the chart until you "
       + "forget it. The address keeps what you did: copy it, or reload the page."),
+    make("p", { id: "takes-over" }, `${TAKES_OVER} ${EQUALS}`),
     make("p", {}, "An alarm comes when a request needs a place and the table is full: 1201 areas, 1202 core sets, 1203 the Waitlist. Then all jobs and tasks are "
       + "gone, and the phases say what begins again. The button After the restart shows the tables with that."),
     make("h3", {}, "Tables"), make("ul", {}, ...Object.values(GLOSSARY).map((it) => make("li", {}, it))),

@@ -9,8 +9,11 @@ import { counted, octal, seconds, took } from "./words.js";
 
 /** @typedef {import("./state.js").State} State @typedef {import("./jobs.js").JobRow} JobRow */
 
-/** What the load is that is always safe. */
-const SAFE = "Of n kinds of jobs n (2^(1/n) - 1) of the time that isn't stolen: if the shorter period has the greater priority, and no deadline comes before the next job";
+/** What the table's times are, and when the load is safe that is calculated. */
+const TOLD = "Least, mean and greatest are measured in this run, from where a job is asked for to where it ends. At most is calculated: it holds if all jobs are asked for at once, "
+  + "and no alarm comes.";
+const SAFE = "is always safe: n (2^(1/n) - 1) of the time that isn't stolen, with n kinds of jobs, if the shorter period has the greater priority, and no deadline comes "
+  + "before the next job.";
 
 const percent = (/** @type {number} */ part) => `${Math.round(100 * part)} %`;
 
@@ -38,36 +41,34 @@ function lineOf(row, name, longest) {
     part === null ? "–" : percent(part), percent(share), ...(ended === 0 ? ["–", "–", "–"] : [took(least), took(mean), took(most, 99)]), longest].map((it) => make("td", {}, it)));
 }
 
-/** What the table's lines and its head say, up to the row that is shown; at the beginning, of all of the run. @param {Pick<State, "run" | "count" | "at">} now */
-function tableOf({ run, count: all, at }) {
-  const count = at > 0 ? at : all;
+/** What the table's lines and its head say, of all of a run. @param {Pick<State, "run" | "count">} now */
+function tableOf({ run, count }) {
   const rows = run.bench.seconds === undefined ? [] : jobsOf(run, count);
   const names = namesOf(run);
   const parts = rows.map((row) => ({ row, name: names.job(row.at) ?? octal(row.at, 5), part: utilization(row) ?? 0 }));
   const stolen = (budgetOf(run, count, { from: 0, to: run.ticksAt(count) })?.stolen ?? 0) / 100;
-  return { parts, stolen, all: parts.reduce((sum, it) => sum + it.part, stolen), time: at > 0 ? `up to ${seconds(run.ticksAt(count))}` : `in ${run.bench.seconds} s`,
+  const isOver = run.ticksAt(count) >= 100 * (run.bench.seconds ?? 0);
+  return { parts, stolen, all: parts.reduce((sum, it) => sum + it.part, stolen), time: isOver ? `all ${run.bench.seconds} s` : `the run so far, ${seconds(run.ticksAt(count))}`,
     bounds: boundsOf(run.bench) };
 }
 
 /** Which part of the time all jobs of a run ask for, with what is stolen, in percent. @param {import("./run.js").Run} run */
-export const loadOf = (run) => Math.round(100 * tableOf({ run, count: run.count, at: 0 }).all);
+export const loadOf = (run) => Math.round(100 * tableOf({ run, count: run.count }).all);
 
 /** The table's lines. @param {State} now */
 export function linesOf(now) {
   const { parts, stolen, all, bounds } = tableOf(now);
   const colours = coloursOf(now.run);
-  const load = now.run.bench.job.every((it) => it.deadline === undefined) ? undefined : bounds?.safe;
-  const safe = typeof load === "number" ? `${percent(load)} is always safe` : "";
   return [
     ...parts.map(({ row, name }) => lineOf(row, [make("span", { class: `swatch j${1 + colours.of(row.at)}` }), name], longestOf(bounds, row.at))),
-    make("tr", {}, make("td", { colSpan: 6 }, stolen > 0 ? `and stolen ${percent(stolen)}` : "all"), make("td", {}, percent(all)), make("td", { colSpan: 5, title: SAFE }, safe)),
+    make("tr", {}, make("td", { colSpan: 6 }, stolen > 0 ? `and stolen ${percent(stolen)}` : "all"), make("td", {}, percent(all)), make("td", { colSpan: 5 })),
   ];
 }
 
 /** @param {State} now @param {State} before */
 export function jobs(now, before) {
-  const { run, at } = now;
-  if (!differ(now, before, "run", "count", "at", "hidden")) return;
+  const { run } = now;
+  if (!differ(now, before, "run", "count", "hidden")) return;
   const box = by("jobs-box");
   if (run.given !== before.run?.given) assign(box, { open: run.bench.job.some((it) => it.deadline !== undefined) });
   assign(by("jobs"), { hidden: run.isFilling });
@@ -77,14 +78,14 @@ export function jobs(now, before) {
     return;
   }
   const { parts, stolen, all, time, bounds } = tableOf(now);
-  assign(box, { hidden: (parts.length === 0 && (at === 0 || box.hidden)) || isHidden(now) });
+  assign(box, { hidden: parts.length === 0 || isHidden(now) });
   if (box.hidden) return;
   const missed = parts.reduce((sum, it) => sum + it.row.missed, 0);
   const told = [...parts.filter((it) => it.part > 0).map(({ name, part }) => `${name} ${percent(part)}`), ...(stolen > 0 ? [`stolen ${percent(stolen)}`] : [])];
-  fill("jobs-sum", [`Jobs, in all: ${told.join(" + ")}${told.length > 1 ? ` = ${percent(all)}` : ""}`,
-    ...(missed > 0 ? ["; ", make("span", { class: "late" }, `${counted(missed, "deadline")} missed ${time}`)] : [])]);
+  fill("jobs-sum", [`Jobs, over ${time}: ${told.join(" + ")}${told.length > 1 ? ` = ${percent(all)}` : ""}`,
+    ...(missed > 0 ? ["; ", make("span", { class: "late" }, `${counted(missed, "deadline")} missed`)] : [])]);
   set(by("jobs-order"), missed > 0 && bounds?.hasOrder === false ? NO_ORDER : "");
+  const load = run.bench.job.every((it) => it.deadline === undefined) ? undefined : bounds?.safe;
+  set(by("jobs-told"), `${TOLD}${typeof load === "number" ? ` ${percent(load)} ${SAFE}` : ""}`);
   fill("jobs", linesOf(now));
-  // (jobs that haven't begun yet have their room)
-  if (at === 0) by("jobs").closest(".wide").style.minHeight = `${by("jobs").parentElement.offsetHeight}px`;
 }

@@ -8,7 +8,7 @@
  *   missed: number, firstMissed: number | null, missedRow: number }} JobRow
  */
 import { State, lastUpTo, lastWhere } from "./lanes.js";
-import { octal } from "./words.js";
+import { counted, octal, took } from "./words.js";
 
 /** A line that lists a task once more, from the action of the task itself. */
 export const AGAIN = /^list ([0-9]+) ([0-7]{5}) ([0-7]{5})$/;
@@ -88,6 +88,16 @@ export function jobsOf(run, count) {
 /** How many deadlines are missed up to a row. @param {Run} run @param {number} count */
 export function missedIn(run, count) {
   return jobsOf(run, count).reduce((sum, it) => sum + it.missed, 0);
+}
+
+/** How many deadlines are missed up to a row, and which first, in a sentence; nothing where none is, or more of the run is still to come.
+ * @param {Run} run @param {number} count @param {import("./account.js").Names} names */
+export function missedText(run, count, names) {
+  if (run.isFilling || limitsOf(run.bench).size === 0) return "";
+  const [first] = jobsOf(run, count).filter((it) => it.missed > 0).sort((one, other) => Number(one.firstMissed) - Number(other.firstMissed));
+  const missed = missedIn(run, count);
+  return first === undefined ? "" : `${counted(missed, "deadline")} ${missed === 1 ? "is" : "are"} missed${missed === 1 ? "" : ", the first one"} at ${took(Number(first.firstMissed), 100)}, `
+    + `by ${names.job(first.at) ?? octal(first.at, 5)}.`;
 }
 
 /** The jobs that are alive at a row and past their deadlines, in the order in which they began. @param {Run} run @param {number} row */

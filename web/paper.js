@@ -88,7 +88,7 @@ function reasonsOf(now, names) {
   const { run, count } = now;
   const alarms = run.alarms.filter((it) => it <= count);
   const jobs = by("jobs").closest("table").cloneNode(true);
-  jobs.querySelector("tbody").replaceWith(make("tbody", {}, ...linesOf({ ...now, at: 0 })));
+  jobs.querySelector("tbody").replaceWith(make("tbody", {}, ...linesOf(now)));
   const told = alarms.slice(0, MOST_ALARMS).map((row) => {
     const [shown] = run.show(row, row);
     return make("section", {}, make("h3", {}, `${shown.reply.slice(shown.reply.indexOf("alarm"))}, at ${(shown.ticks / 100).toFixed(2)} s`),

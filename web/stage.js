@@ -27,8 +27,8 @@ export function themeNow() {
   return matchMedia("(prefers-color-scheme: dark)").matches ? "dark" : "light";
 }
 
-/** How high all else is in the tour, for a projector, and on the page, where a letter is one high. */
-const [TOUR_BESIDE, PROJECTOR_BESIDE, PAGE_BESIDE] = [31.2, 25.2, 33.8];
+/** How high all else is in the tour, for a projector, and on the page, where a letter is one high; and each line of the table of jobs. */
+const [TOUR_BESIDE, PROJECTOR_BESIDE, PAGE_BESIDE, JOB_LINE] = [31.2, 24.6, 33.8, 1.7];
 
 /** What the tour's picture has, what its words need; and that of an exercise whose answer is hidden. */
 const [TOURED, ASKED] = [["alarms", "work", "sets", "axis", "budget", "notes"], ["alarms", "sets", "strips", "axis"]];
@@ -43,12 +43,14 @@ function sizes(now) {
   if (window.innerWidth <= 640) return { high: 19, text: 12, strips: ["areas"], parts: isHidden(now) ? ASKED : isToured ? TOURED : [...PARTS.filter((it) => it !== "before"), "notes"] };
   const size = parseFloat(getComputedStyle(document.documentElement).fontSize);
   // (where little else is below it, it fills the window; and elsewhere it stands above the foot of a low one)
-  const [least, most, beside] = !(isToured || isProjected) || window.innerWidth < 54 * size ? [1.5, window.innerWidth < 54 * size ? 1.87 : 2.5, PAGE_BESIDE] : [1.6, 3, isToured ? TOUR_BESIDE : PROJECTOR_BESIDE];
+  const jobLines = run.bench.job.some((it) => it.deadline !== undefined) ? run.bench.job.length + 1.4 : 0;
+  const [least, most, beside] = !(isToured || isProjected) || window.innerWidth < 54 * size ? [1.5, window.innerWidth < 54 * size ? 1.87 : 2.5, PAGE_BESIDE]
+    : isProjected ? [1.35, 3, PROJECTOR_BESIDE + JOB_LINE * jobLines] : [1.6, 3, TOUR_BESIDE];
   // (with the run before it is as high as without)
   const [line, half] = before === null || isToured || isProjected ? [0, 0] : [1.4, before.run.sets / 2];
   const lanes = Math.max(least, Math.min(most, (window.innerHeight / size - beside - line) / (run.sets + 3.6 + half)));
-  const parts = isHidden(now) ? ASKED : [...(isToured ? TOURED : isProjected ? ["events", ...TOURED] : [...PARTS, "notes"]), "legend"];
-  return { high: Math.round(lanes * size), text: Math.round(0.8 * size), parts };
+  const parts = isHidden(now) ? ASKED : [...(isToured || isProjected ? TOURED : [...PARTS, "notes"]), "legend"];
+  return { high: Math.round(lanes * size), text: Math.round((isProjected ? 1 : 0.8) * size), ...(isProjected ? { least: Math.round(0.76 * size) } : {}), parts };
 }
 
 /** What is seen of the run, as a picture. @param {State} now @param {import("./drawing.js").View} view how */

@@ -17,7 +17,7 @@
  *   moved: { slider: string, run: any, at: number },
  *   edited: import("./run.js").Run | null,
  *   note: { run: any, at: number, text: string }, said: { run: any, at: number, text: string },
- *   tour: { step: number, tried: { name: string, run: import("./run.js").Run }[] },
+ *   tour: { step: number, left: number, tried: { name: string, run: import("./run.js").Run }[] },
  *   kept: { kind: string, name: string, text: string }[], own: string,
  * }} State
  * `at` is the row that is shown, and `isAfter` says that its tables are those after its restart.

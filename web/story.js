@@ -1,6 +1,6 @@
 /** The story beside the chart: the tour, what is told of the row, what may be tried, and an exercise's question. */
-import { accountOf, nameOfRestart, orderOf, standingOf } from "./account.js";
-import { becauseOf, lateOf, short, strawOf } from "./because.js";
+import { accountOf, cameText, nameOfRestart, orderOf, standingOf } from "./account.js";
+import { TAKES_OVER, becauseOf, lateOf, short, strawOf } from "./because.js";
 import { assign, attribute, button, by, fill, make, set, withCode, withNumbers } from "./dom.js";
 import { GUESSES } from "./guesses.js";
 import { loadOf } from "./job-table.js";
@@ -29,11 +29,17 @@ export function isTourSeen() {
   }
 }
 
+/** What hasn't been guessed yet. @param {State} now @returns {Try[]} */
+const guessesOf = ({ tour: { tried } }) => Object.entries(GUESSES).filter(([name]) => !tried.some((it) => it.name === name)).map(([name, { label }]) => [label, "guess", name]);
+
+/** Whether the landing of the tour is shown, and whether it runs as it was guessed. @param {State} now */
+const isTours = ({ run, count }) => count > 0 && run.source.exercise === "landing-1202";
+const isGuess = (/** @type {State} */ now) => isTours(now) && now.tour.tried.some((it) => it.run === now.run);
+
 /** The steps of the tour: what each says, and its buttons. @param {State} now @returns {{ text: string, steps: Try[] }} */
 function tourOf(now) {
-  const { tour, run, at } = now;
-  const guesses = Object.entries(GUESSES).filter(([name]) => !tour.tried.some((it) => it.name === name))
-    .map(([name, { label }]) => /** @type {Try} */ ([label, "guess", name]));
+  const { run, at } = now;
+  const guesses = guessesOf(now);
   return /** @type {{ text: string, steps: Try[] }[]} */ ([
     { text: "In July 1969, minutes before it landed on the Moon, Apollo 11's computer ran out of room. This landing is like that one.\nThe computer shares its time "
         + "among jobs. Each job needs a core set, a block of twelve words of memory, and there are seven: the rows of the picture.", steps: [["Run", "run"]] },
@@ -45,7 +51,7 @@ function tourOf(now) {
     { text: "Less work prevents the alarm; more room only delays it.\nIn 1969 nobody had time to try. But with each alarm the computer restarted: it dropped all jobs, "
         + "the sleepers too, and by its phase tables began the guidance again and nothing else. So it went on, five times, down to the Moon.",
       steps: [["Apollo 11: five alarms", "kept", "apollo-11"], ["90 %, and still too late", "kept", "still-too-late"], ["Build your own", "new"]] },
-  ])[tour.step - 1];
+  ])[now.tour.step - 1];
 }
 
 /** How a button of the tour looks: one leads on. @param {Try} it @param {number} k @param {number} step */
@@ -90,7 +96,7 @@ function buttons(id, steps, more = () => ({})) {
 /** @param {State} now @param {State} before */
 export function tour(now, before) {
   if (!differ(now, before, "tour", "run", "count", "before", "clock")) return;
-  const { step, tried } = now.tour;
+  const { step } = now.tour;
   assign(by("guide"), { hidden: step === 0, className: `guide step-${step}` });
   document.body.classList.toggle("touring", step > 0);
   if (before.tour !== undefined && before.tour.step > 0 && step === 0) {
@@ -100,6 +106,7 @@ export function tour(now, before) {
       // (a browser that keeps nothing shows it again)
     }
   }
+  showTried(now);
   if (step === 0) return;
   const { text, steps } = tourOf(now);
   set(by("guide-step"), `${step} of 5`);
@@ -107,8 +114,14 @@ export function tour(now, before) {
   if (by("guide-text").textContent !== [lead, ...more].join(" ")) fill("guide-text", [lead, ...more.flatMap((it) => [" ", make("span", { class: "more" }, it)])]);
   const back = /** @type {Try[]} */ ([2, 3, 5].includes(step) ? [["Back", "tour", step - 1]] : []);
   buttons("guide-steps", [...steps, ...back, [step === 5 ? "Done" : "Skip", "tour", 0]], (it, k) => ({ class: lookOf(it, k, step) }));
-  const lines = tried.map(triedText);
-  const list = by("tried");
+}
+
+/** What came of each guess: in the tour, and after it with what is told of its landing. @param {State} now */
+function showTried(now) {
+  const { step, tried } = now.tour;
+  const lines = isTours(now) ? tried.map(triedText) : [];
+  const [list, before] = [by("tried"), by(step > 0 ? "guide-text" : "try")];
+  if (list.nextSibling !== before) before.before(list);
   attribute(list, "aria-busy", String(tried.some((it) => it.run.isFilling)));
   if (list.childElementCount !== lines.length) fill(list, lines.map(() => make("li")));
   lines.forEach((it, k) => {
@@ -120,11 +133,11 @@ export function tour(now, before) {
 /** A sentence with a capital. @param {string} text */
 const begun = (text) => text.slice(0, 1).toUpperCase() + text.slice(1);
 
-/** At the beginning: how to go on. @param {State} now @param {any} shown @returns {Try[]} */
-function atBeginning({ run, count }, shown) {
+/** At the beginning, and at the end: how to go on. @param {State} now @returns {Try[]} */
+function atBeginning({ run, count, tour }) {
   if (count === 0 && run.source.document !== "") return [];
-  if (count === 0) return [["A landing with alarm 1202", "kept", "landing-1202"]];
-  const alarm = run.alarms.find((row) => row > shown.row && row <= count);
+  if (count === 0) return [tour.left > 0 ? ["Back to the tour", "tour-again"] : ["A landing with alarm 1202", "kept", "landing-1202"]];
+  const alarm = run.alarms.find((row) => row <= count);
   const late = run.isFilling ? 0 : Math.min(...jobsOf(run, count).flatMap((it) => it.missedRow || []));
   return /** @type {Try[]} */ ([...(alarm === undefined ? [] : [["To the first alarm", "go", alarm]]), ...(late > 0 && late < Infinity ? [["To the first deadline missed", "late", late]] : [])]);
 }
@@ -153,13 +166,18 @@ function atAlarm({ run }, shown) {
 
 /** What may be tried at a row: where an exercise's answer is hidden, only what doesn't give it away. @param {State} now @param {any} shown @returns {Try[]} */
 export function triesOf(now, shown) {
-  if (shown.row === 0) return isHidden(now) ? [] : atBeginning(now, shown);
+  if (shown.row === 0) return isHidden(now) ? [] : atBeginning(now);
   const restart = nameOfRestart(shown.line);
   /** @type {Try[]} */
   const after = shown.after === null && !shown.isAfter ? [] : [shown.isAfter ? [`Before the ${restart}`, "go", shown.row] : [`After the ${restart}`, "after"]];
   const isAlarm = shown.step !== null && shown.step.alarm !== 0 && !shown.isAfter;
-  return isHidden(now) ? after : [...after, ...(isAlarm ? atAlarm(now, shown) : shown.isAfter ? [] : atLate(now, shown))];
+  if (isHidden(now)) return after;
+  if (isAlarm || isGuess(now)) return [...after, ...(isGuess(now) || (isTours(now) && now.run.bench === now.run.given) ? guessesOf(now) : atAlarm(now, shown))];
+  return [...after, ...(shown.isAfter ? [] : [...atLate(now, shown), ...(isEnd(now) ? atBeginning(now) : [])])];
 }
+
+/** Whether the last row of a run is shown whose time is over. @param {State} now */
+const isEnd = ({ run, count, at, clock }) => at === count && !run.isFilling && !clock.isRunning && run.ticksAt(count) >= 100 * (run.bench.seconds ?? Infinity);
 
 let drawn = "";
 
@@ -173,6 +191,9 @@ function changeText({ run, count, at, before, moved, clock }) {
     : now.alarms > 0 ? `${counted(now.alarms, "alarm")}, ${then.alarms} before.` : then.alarms > 0 ? "no alarm comes now." : "no alarm, as before.";
   return `${load}: ${said}`;
 }
+
+/** Whether jobs had other priorities in the run before. @param {State} now */
+const isReordered = ({ run, before }) => before !== null && run.bench.job.some(({ at }) => priorityOf(run.bench, at) !== priorityOf(before.run.bench, at));
 
 /** What is opened or gone to is seen from its top: not as a number is changed, or a request typed, further down. @param {State} now @param {State} before */
 function toTop(now, before) {
@@ -199,10 +220,12 @@ export function account(now, before) {
   const late = isAlarm || shown.isAfter || isHidden(now) ? null : lateOf(run, shown, names);
   const isPlain = shown.row > 0 && !isAlarm && late === null && !shown.isAfter && !isHidden(now);
   assign(by("told"), { hidden: now.tour.step > 0, className: `told${isAlarm || late !== null ? " alarm" : isPlain ? " plain" : ""}${shown.row === 0 ? " first" : ""}${by("told").classList.contains("long") ? " long" : ""}` });
-  const verdict = isPlain || shown.row === 0 ? changeText(now) : "";
+  const verdict = isPlain || shown.row === 0 ? changeText(now) || (isPlain && isEnd(now) ? cameText(run, count, names) : "") : "";
   set(by("told-name"), verdict !== "" ? "What came of it" : late === null ? heading : "A deadline is missed: why");
   const [lead, rest] = shown.row === 0 && verdict === "" ? leadOf(lines) : ["", lines];
   set(by("because"), verdict !== "" ? verdict : late !== null ? begun(late.text) : isAlarm ? begun(`${strawOf(run, shown, names)} ${becauseOf(run, shown, names)}`.trim()) : lead);
+  const isChange = shown.line === "change" && shown.who === "the clock" && shown.before?.running !== shown.scene.running;
+  set(by("rule"), run.bench.seconds !== undefined && !isHidden(now) && (late !== null || isChange || (verdict !== "" && isReordered(now))) ? TAKES_OVER : "");
   buttons("try", triesOf(now, shown));
   assign(by("try"), { hidden: by("try").childElementCount === 0 });
   const isAsked = !["nobody", "the clock"].includes(shown.who) && !shown.isAfter;

@@ -16,7 +16,8 @@ export const GLOSSARY = {
   tasks: "A place of the Waitlist holds a task: a short program that is started by the clock and may establish jobs. There is room for nine.",
   phases: "There are six restart groups, and each has a phase. After a restart the phases say what begins again; 0 means that nothing does.",
   codes: "FAILREG keeps the codes of alarms: the first, the second and the latest.",
-  newjob: "NEWJOB names the job that is more urgent than the running one. At the next change of jobs it takes core set 0.",
+  newjob: "NEWJOB names the job that is more urgent than the running one. At the next change of jobs it takes core set 0. Of several that are equally urgent "
+    + "it names the one with the lowest number, and none that is just as urgent as the running one.",
 };
 
 /** @typedef {keyof typeof GLOSSARY} ListName @typedef {{ name: string, pieces: any[], actions?: any[] }} Told @typedef {import("./run.js").Run} Run */

@@ -26,7 +26,7 @@ def try_building(browser, trial):
         browser.value(ADD.replace("GIVEN", json.dumps(given)))
         filled(browser)
     browser.wait("!document.getElementById('jobs-box').hidden")
-    trial.expect(browser.text("jobs-sum"), browser.text("jobs-sum").startswith('Jobs, in all: guidance 85 % + a "quoted" one 40 % = 125 %; '))
+    trial.expect(browser.text("jobs-sum"), browser.text("jobs-sum").startswith('Jobs, over all 60 s: guidance 85 % + a "quoted" one 40 % = 125 %; '))
     document = browser.value("document.getElementById('edit-text').value")
     ran = subprocess.run([PROGRAM, "check"], input=document, capture_output=True, text=True, check=False)
     trial.expect(f"check: {ran.stdout} {document}", ran.returncode == 0 and "findvac 20 04000" in document and "deadline = 200" in document)

@@ -78,7 +78,7 @@ def try_jobs(browser, trial):
     browser.wait("!document.getElementById('jobs-box').hidden")
     trial.same("the jobs", browser.value("Array.from(document.querySelectorAll('#jobs tr'), (it) => it.children[0].innerText.trim())"), ["fast", "slow", "and stolen 10 %"])
     said = browser.text("jobs-sum"), browser.value("document.getElementById('jobs-box').open")
-    trial.expect(f"{said}", re.fullmatch(r"Jobs, in all: fast 40 % \+ slow 63 % \+ stolen 10 % = 113 %; \d+ deadlines missed in 20 s", said[0]) and said[1])
+    trial.expect(f"{said}", re.fullmatch(r"Jobs, over all 20 s: fast 40 % \+ slow 63 % \+ stolen 10 % = 113 %; \d+ deadlines missed", said[0]) and said[1])
     browser.value("document.querySelector('#jobs button').click()")
     # (the first slow job begins at 0.01 s, and has 1.50 s)
     says(browser, trial, "the first that is missed", "at 1.52 s: tick.")
