@@ -170,7 +170,8 @@ enum {
 /* The lines of devices, of which agc_pulse takes one. */
 enum { AGC_TIMER = 0, AGC_KEY = 1, AGC_RADAR = 2 };
 
-/* The rules that lawful words keep. agc_explain tells the first that is broken. */
+/* The rules that words keep between requests, of which lawful words keep the first nineteen. agc_explain
+   tells the first that is broken, agc_write_rule writes each as a sentence. */
 enum {
     AGC_RULE_WORD = 1,          /* a word has at most fifteen bits */
     AGC_RULE_NUMBER = 2,        /* a job's number is 1 to the number of core sets */
@@ -190,7 +191,10 @@ enum {
     AGC_RULE_NO_TASK = 16,      /* LST2 behind the last task is 0 */
     AGC_RULE_PHASE = 17,        /* a phase is at most 127 */
     AGC_RULE_PAIR = 18,         /* -PHASE is the complement of PHASE */
-    AGC_RULE_CODE = 19          /* FAILREG has codes of alarms, the first, the second and the latest */
+    AGC_RULE_CODE = 19,         /* FAILREG has codes of alarms, the first, the second and the latest */
+    AGC_RULE_DUE = 20,          /* between requests no task is due */
+    AGC_RULE_TIDY_JOB = 21,     /* a step leaves 0 in MODE and PUSHLOC of a job */
+    AGC_RULE_TIDY_GAP = 22      /* a step leaves no 077777 in LST1 */
 };
 
 /* A function of this header itself, and a type that has a bool. C90 has neither `inline` nor
@@ -253,7 +257,7 @@ typedef struct {
     uint8_t phases[6];
 } AgcScene;
 
-/* Why words aren't lawful: the rule that is broken first, at which place of the array, what stands
+/* Why no step is asked on words: the rule that is broken first, at which place of the array, what stands
    there, and what would have to, or AGC_ANY where the other words leave more than one choice. */
 typedef struct { uint32_t code, rule, place, found, wanted; } AgcFinding;
 enum { AGC_ANY = 65535 };
@@ -549,8 +553,9 @@ AGC_USED uint32_t agc_clear(uint16_t words[AGC_WORDS], uint32_t sets);
    AGC_UNLAWFUL. True between requests, false inside a tick, where a task is due. */
 AGC_USED AgcTruth agc_check(const uint16_t words[AGC_WORDS], uint32_t sets);
 
-/* Why the array has no image of so many core sets: agc_check's code, and where that is AGC_NOT_WORDS or
-   AGC_UNLAWFUL, the first rule that is broken, where, what stands there and what would have to. */
+/* Why agc_step serves no request on the array: the code that it answers of the array, one of those of the
+   image, AGC_NOT_NOW and AGC_UNTIDY; and but for AGC_OK and AGC_NO_SUCH_SETS the first rule that is broken,
+   where, what stands there and what would have to. */
 AGC_USED AgcFinding agc_explain(const uint16_t words[AGC_WORDS], uint32_t sets);
 
 /* All that the tables hold. Answers the code; *scene stays if it isn't AGC_OK. */

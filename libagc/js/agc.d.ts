@@ -294,9 +294,8 @@ export type ClockState = {
     alarms?: FirstAlarms;
 };
 /**
- * Why no machine begins with words: the code that a call lacks; the rule of lawful words that is broken first, 0 where they are
- * lawful and no request leaves them so; the word's place, from 0, what stands there, and what would have to: null where the
- * other words leave more than one choice.
+ * Why no machine begins with words: the code that a call lacks; the rule that is broken first; the word's place, from 0, what
+ * stands there, and what would have to: null where the other words leave more than one choice.
  */
 export type Finding = {
     code: string;

@@ -83,9 +83,8 @@ export { Code, Kind };
 /** All of a clock, of which JSON can be made. @typedef {{ timetable: Timetable, at: number[], alarms?: FirstAlarms }} ClockState */
 
 /**
- * Why no machine begins with words: the code that a call lacks; the rule of lawful words that is broken first, 0 where they are
- * lawful and no request leaves them so; the word's place, from 0, what stands there, and what would have to: null where the
- * other words leave more than one choice.
+ * Why no machine begins with words: the code that a call lacks; the rule that is broken first; the word's place, from 0, what
+ * stands there, and what would have to: null where the other words leave more than one choice.
  * @typedef {{ code: string, rule: number, place: number, found: number, wanted: number | null, text: string }} Finding
  */
 
@@ -147,7 +146,6 @@ const SIZE = {
 };
 const PAGE = 65536;
 const MOST = 0xffffffff;
-const MINUS_ZERO = 0o77777;
 
 /** @type {any} */
 let calls = null;
@@ -654,7 +652,8 @@ export class Machine {
     this.#place = roomFor(this, 4 * WORDS);
     [this.#words, this.#moment] = [BigInt(this.#place), BigInt(this.#place + 2 * WORDS)];
     if (words !== undefined) {
-      this.#take(found);
+      checked("words", found, this.#sets, []);
+      putWords(found, this.#place);
     } else if (power === undefined) {
       served(calls.agc_clear(this.#words, this.#sets));
     } else {
@@ -663,15 +662,6 @@ export class Machine {
       served(numbers[at.answer / 4]);
     }
     bytes.copyWithin(this.#place + 2 * WORDS, this.#place, this.#place + 2 * WORDS);
-  }
-
-  /** Begins with words from elsewhere: whether a step may be asked on them is tried first. @param {number[]} found */
-  #take(found) {
-    putWords(found, this.#place);
-    this.#spell("change", []);
-    this.#step(calls.agc_step);
-    lawful("words", numbers[at.answer / 4], found, this.#sets);
-    putWords(found, this.#place);
   }
 
   /**
@@ -1223,11 +1213,13 @@ function putWords(words, place) {
   for (let k = 0; k < words.length; k++) halves[place / 2 + k] = words[k] >= 0 && words[k] <= 0xffff ? words[k] : 0xffff;
 }
 
-/** Throws where these aren't lawful words. @param {string} what @param {number[]} words @param {number} sets */
-function checked(what, words, sets) {
-  putWords(words, at.other);
-  calls.agc_check(to.answer, to.other, sets);
-  lawful(what, numbers[at.answer / 4], words, sets);
+/**
+ * Throws what these words lack, but for one of these codes; and which word it is.
+ * @param {string} what @param {number[]} words @param {number} sets @param {string[]} [but]
+ */
+function checked(what, words, sets, but = [Code.NOT_NOW, Code.UNTIDY]) {
+  const finding = findingIn(words, sets);
+  if (finding !== null && !but.includes(finding.code)) throw new AgcError(finding.code, `${what}: ${finding.text}`);
 }
 
 /**
@@ -1240,38 +1232,18 @@ export function placeName(place) {
   return PLACES[integer("place", place, 0, WORDS - 1)];
 }
 
-/**
- * The places at which lawful words are as no request leaves them: MODE or PUSHLOC of a job isn't 0, or a gap is minus 0.
- * @param {number[]} words
- */
-function untidy(words) {
-  const { SET_SIZE, MODE, PUSHLOC, PRIORITY, LST1, LST2, LAST_SET } = NUMBERS;
-  return words.findIndex((it, place) => {
-    const field = place % SET_SIZE;
-    if (place >= LST1 && place < LST2) return it === MINUS_ZERO;
-    const isOfSet = (place < LST1 || place >= LAST_SET) && (field === MODE || field === PUSHLOC);
-    return isOfSet && it !== 0 && words[place - field + PRIORITY] !== MINUS_ZERO;
-  });
-}
-
 /** Why no machine begins with words, or null. @param {number[]} words @param {number} sets @returns {Finding | null} */
 function findingIn(words, sets) {
   putWords(words, at.other);
   calls.agc_explain(to.answer, to.other, sets);
-  let [number, rule, place, , right] = numbersAt(at.answer, 5);
-  const odd = number === 0 ? untidy(words) : -1;
-  if (odd !== -1) [number, place, right] = [CODE_NUMBERS.UNTIDY, odd, 0];
-  if (number === 0) {
-    calls.agc_check(to.answer, to.other, sets);
-    if (numbers[at.answer / 4] === 0 && bytes[at.answer + LAYOUT.AgcTruth.truth] === 0) [number, place, right] = [CODE_NUMBERS.NOT_NOW, NUMBERS.TIME3, NUMBERS.ANY];
-  }
+  const [number, rule, place, , right] = numbersAt(at.answer, 5);
   const code = CODE_NAMES[number];
-  if (code === Code.OK || code === Code.NO_SUCH_SETS) return null;
+  if (code === Code.OK) return null;
   const [found, wanted] = [words[place], right === NUMBERS.ANY ? null : right];
-  if (rule !== 0) calls.agc_write_rule(to.answer, rule, to.text, BigInt(SIZE.text));
-  const why = rule !== 0 ? textAt(at.answer) : code === Code.NOT_NOW ? "a task is due" : "no request leaves it so";
+  calls.agc_write_rule(to.answer, rule, to.text, BigInt(SIZE.text));
   const other = wanted === null ? "" : `, but should be ${octal(wanted)}`;
-  return { code, rule, place, found, wanted, text: `${PLACES[place]} (word ${place}) is ${found < 0 ? found : octal(found)}${other}: ${why}` };
+  const is = `${PLACES[place]} (word ${place}) is ${found < 0 ? found : octal(found)}${other}`;
+  return { code, rule, place, found, wanted, text: `${is}: ${textAt(at.answer)}` };
 }
 
 /**
@@ -1282,16 +1254,6 @@ function findingIn(words, sets) {
 export function findingOf(words) {
   const found = wordsOf("words", words);
   return findingIn(found, setsOf(found));
-}
-
-/**
- * Throws what a call lacked that looked at words, and which word it is.
- * @param {string} what @param {number} code @param {number[]} words @param {number} sets
- */
-function lawful(what, code, words, sets) {
-  if (code === 0) return;
-  const finding = findingIn(words, sets);
-  throw new AgcError(CODE_NAMES[code], finding === null ? "" : `${what}: ${finding.text}`);
 }
 
 /**

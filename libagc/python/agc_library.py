@@ -254,8 +254,8 @@ class AgcScene(Structure):
 
 
 class AgcFinding(Structure):
-    """Why words aren't lawful: the rule that is broken first, at which place of the array, what stands there,
-    and what would have to, or ANY where the other words leave more than one choice."""
+    """Why no step is asked on words: the rule that is broken first, at which place of the array, what stands
+    there, and what would have to, or ANY where the other words leave more than one choice."""
 
     code: int
     rule: int

@@ -443,8 +443,9 @@ pub struct AgcScene {
     pub phases: [u8; 6],
 }
 
-/// Why words aren't lawful: the rule that is broken first, at which place of the array, what
-/// stands there, and what would have to, or ANY where the other words leave more than one choice.
+/// Why no step is asked on words: the rule that is broken first, at which place of the array,
+/// what stands there, and what would have to, or ANY where the other words leave more than one
+/// choice.
 #[repr(C)]
 #[derive(Clone, Copy, Debug, Default, PartialEq, Eq)]
 pub struct AgcFinding {
@@ -792,9 +793,9 @@ unsafe extern "C" {
     /// Whether the array has a lawful image: OK, or the first of NO_SUCH_SETS, NOT_WORDS and
     /// UNLAWFUL. True between requests, false inside a tick, where a task is due.
     pub safe fn agc_check(words: &[u16; WORDS], sets: u32) -> AgcTruth;
-    /// Why the array has no image of so many core sets: agc_check's code, and where that is
-    /// NOT_WORDS or UNLAWFUL, the first rule that is broken, where, what stands there and what
-    /// would have to.
+    /// Why agc_step serves no request on the array: the code that it answers of the array, one of
+    /// those of the image, NOT_NOW and UNTIDY; and but for OK and NO_SUCH_SETS the first rule
+    /// that is broken, where, what stands there and what would have to.
     pub safe fn agc_explain(words: &[u16; WORDS], sets: u32) -> AgcFinding;
     /// All that the tables hold. Answers the code; *scene stays if it isn't OK.
     pub safe fn agc_scene(words: &[u16; WORDS], sets: u32, scene: &mut AgcScene) -> Code;

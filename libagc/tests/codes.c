@@ -391,11 +391,11 @@ static void replies(void) {
 static void rules(void) {
     char text[AGC_LINE] = "";
     AgcNumber told = agc_write_rule(AGC_RULE_CODE, text, sizeof text);
-    check(told.code == 0 && told.number == strlen(text) && strstr(text, "FAILREG") == text, "the last rule", 7, 0);
+    check(told.code == 0 && told.number == strlen(text) && strstr(text, "FAILREG") == text, "a rule", 7, 0);
     text[0] = 0;
     check(agc_write_rule(AGC_RULE_WORD, text, 30).code == 14 && agc_write_rule(AGC_RULE_WORD, text, 31).code == 0, "no room", 7, 14);
     text[0] = 0;
-    check(agc_write_rule(0, text, sizeof text).code == 4 && agc_write_rule(AGC_RULE_CODE + 1, text, sizeof text).code == 4 && text[0] == 0,
+    check(agc_write_rule(0, text, sizeof text).code == 4 && agc_write_rule(AGC_RULE_TIDY_GAP + 1, text, sizeof text).code == 4 && text[0] == 0,
           "no rule", 7, 4);
 }
 

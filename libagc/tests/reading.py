@@ -87,20 +87,21 @@ def is_told(words, place):
 
 
 def first_untidy(words, sets):
-    """The first word that is as no request leaves it: MODE or PUSHLOC of a job isn't 0, or a gap is minus 0."""
+    """The first word that is as no request leaves it, those of core sets before gaps: MODE or PUSHLOC of a job isn't 0, or a gap
+    is minus 0."""
     jobs = [SETS[k] for k in range(sets) if words[SETS[k] + 11] != FREE]
     odd = [it for at in jobs for it in (at + 7, at + 10) if words[it] != 0]
-    return min([*odd, *(k for k in range(91, 99) if words[k] == FREE)], default=None)
+    return next(iter([*odd, *(k for k in range(91, 99) if words[k] == FREE)]), None)
 
 
 def explains(words, other, sets, chance):
     """What is told of words that are others than lawful ones."""
     told, code = finding_of(other), library.agc_check(array_of(other), sets).code
     if code == Code.OK:
-        untidy = first_untidy(other, sets)
-        is_due = untidy is None and other[90] == 0 and task_count(other) > 0
-        wanted = (Code.NOT_NOW, 90) if is_due else None if untidy is None else (Code.UNTIDY, untidy)
-        assert (told and (told.code, told.place)) == wanted, told
+        untidy, is_due = first_untidy(other, sets), other[90] == 0 and task_count(other) > 0
+        odd = None if untidy is None else (Code.UNTIDY, 22 if 91 <= untidy < 99 else 21, untidy, 0)
+        wanted = (Code.NOT_NOW, 20, 90, None) if is_due else odd
+        assert (told and (told.code, told.rule, told.place, told.wanted)) == wanted, told
         return 0
     assert told.code == code and told.found == other[told.place], told
     assert (told.rule, told.place, told.wanted) == first_broken(other, sets), (told, first_broken(other, sets))
@@ -130,7 +131,7 @@ class Reading(unittest.TestCase):
                 other = changed(chance, words)
                 faults += explains(words, other, sets, chance)
                 rules |= {finding_of(other).rule} if finding_of(other) else set()
-        self.assertEqual(rules, set(range(20)), "the nineteen, and 0 for what is untidy or due")
+        self.assertEqual(rules, set(range(1, 23)))
         self.assertGreaterEqual(faults, COUNT // 2)
 
 

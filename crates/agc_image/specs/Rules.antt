@@ -1,8 +1,8 @@
--- The rules of lawful words, and which word breaks one.
+-- The rules of words between requests, and which word breaks one.
 use Rattle.std.specs.Prelude.{◌≡◌, ◌⊎◌, ℕ, zero, suc, ◌+◌, ◌-◌, ◌*◌, ◌/◌, ◌%◌, ◌<◌, ◌≤◌, ◌==◌}
 use Rattle.std.specs.Prelude.{nat_lt, ◌&&◌, ◌||◌, not, Bool, false, IsTrue, if◌then◌else◌, List, []}
 use Rattle.std.specs.Prelude.{◌∷◌, slice_get, slice_index, Option, Some, IfSome}
-use Rattle.agc_word.specs.Layout.{set_place, use_place, address_of, newjob, time3, lst1, lst2}
+use Rattle.agc_word.specs.Layout.{set_place, address_of, newjob, time3, lst1, lst2}
 use Rattle.agc_word.specs.Layout.{use_words, phase_words, failreg}
 use Rattle.agc_image.specs.declared.rule.Rule.{Rule}
 use Rattle.agc_image.specs.declared.rule.Rule.TheVariants as rule
@@ -14,7 +14,8 @@ rules =
     rule.FifteenBits ∷ rule.JobNumber ∷ rule.JobNumberTwice ∷ rule.JobAddress ∷ rule.JobPriority
     ∷ rule.JobArea ∷ rule.JobAreaTwice ∷ rule.AwakeInFront ∷ rule.UseWord ∷ rule.NewjobNamesBest
     ∷ rule.Time3 ∷ rule.TaskNear ∷ rule.TaskAddress ∷ rule.Gap ∷ rule.NoGapAfterLast
-    ∷ rule.NoTaskAfterLast ∷ rule.PhaseRange ∷ rule.PhasePair ∷ rule.AlarmCodes ∷ []
+    ∷ rule.NoTaskAfterLast ∷ rule.PhaseRange ∷ rule.PhasePair ∷ rule.AlarmCodes ∷ rule.NoneDue
+    ∷ rule.JobTidy ∷ rule.GapTidy ∷ []
 
 abbrev pub IsNumberOf : ℕ → Rule → Type 0
 IsNumberOf number this = (1 ≤ number) × (slice_get rules (number - 1) ≡ Some this)
@@ -187,6 +188,13 @@ Breaks rule.PhasePair words sets place =
     × ¬ (slice_index words place ≡ 0o77777 - slice_index words (place + 1))
 Breaks rule.AlarmCodes words sets place =
     (failreg ≤ place) × (place < failreg + 3) × IsTrue (breaks_codes words place)
+Breaks rule.NoneDue words sets place =
+    (place ≡ time3) × (slice_index words place ≡ 0) × (0 < tasks_in words)
+Breaks rule.JobTidy words sets place =
+    IsTrue (is_held words (set_at place)) × ¬ (slice_index words place ≡ 0)
+    × ((place ≡ set_place (set_at place) + 7) ⊎ (place ≡ set_place (set_at place) + 10))
+Breaks rule.GapTidy words sets place =
+    (lst1 ≤ place) × (place < lst2) × (slice_index words place ≡ 0o77777)
 
 -- what is found is a place of the array, whose word breaks the rule
 abbrev pub IsFound : List ℕ → ℕ → Option BrokenRule → Type 0

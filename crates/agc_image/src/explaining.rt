@@ -1,4 +1,5 @@
-// The first word of an array that isn't lawful, and the word that would be.
+// The first word of an array that breaks a rule, and the word that would be right. What a function
+// finds that has a definition's name, `Rules.antt` says.
 ghost use Rattle.std.specs.Prelude.{◌≡◌, ◌<◌, ◌≤◌, ℕ, IsTrue, Some};
 ghost use Rattle.agc_image.specs.Rules.{IsFound, any_set, best_set, better, gap_of, holds_area};
 ghost use Rattle.agc_image.specs.Rules.{holds_number, is_area, is_awake, is_better, is_code};
@@ -53,7 +54,6 @@ fn wide(words: &[u16; 144], size: usize) -> Option<BrokenRule>
     None
 }
 
-/// PRIORITY of a core set.
 fn priority_at(words: &[u16; 144], set: usize) -> u16
     requires { set ≤ 7 }
     ensures { result ≡ priority_at words.now set }
@@ -61,7 +61,6 @@ fn priority_at(words: &[u16; 144], set: usize) -> u16
     words[set_place(set) + 11]
 }
 
-/// Whether a core set holds a job.
 fn is_held(words: &[u16; 144], set: usize) -> bool
     requires { set ≤ 7 }
     ensures { result ≡ is_held words.now set }
@@ -69,7 +68,6 @@ fn is_held(words: &[u16; 144], set: usize) -> bool
     priority_at(words, set) != 0o77777
 }
 
-/// Whether a core set holds a job that is awake.
 fn is_awake(words: &[u16; 144], set: usize) -> bool
     requires { set ≤ 7 }
     ensures { result ≡ is_awake words.now set }
@@ -77,7 +75,6 @@ fn is_awake(words: &[u16; 144], set: usize) -> bool
     priority_at(words, set) < 0o40000
 }
 
-/// PRIORITY of a core set with its sign taken off.
 fn urgency_at(words: &[u16; 144], set: usize) -> u16
     requires { set ≤ 7 }
     ensures { result ≡ urgency_at words.now set }
@@ -90,7 +87,6 @@ fn urgency_at(words: &[u16; 144], set: usize) -> u16
     }
 }
 
-/// Whether one of the first `sets` core sets holds a job of this number.
 #[tactic(auto, unfolding(crate::specs::Rules::any_set))]
 fn has_number(words: &[u16; 144], sets: usize, number: u16) -> bool
     requires { sets ≤ 8 }
@@ -103,7 +99,6 @@ fn has_number(words: &[u16; 144], sets: usize, number: u16) -> bool
     found
 }
 
-/// Whether the job of one of the first `sets` core sets owns the area at this address.
 #[tactic(auto, unfolding(crate::specs::Rules::any_set))]
 fn has_area(words: &[u16; 144], sets: usize, address: u16) -> bool
     requires { sets ≤ 8 }
@@ -116,7 +111,6 @@ fn has_area(words: &[u16; 144], sets: usize, address: u16) -> bool
     found
 }
 
-/// Whether this is the address of a VAC area, or 0.
 fn is_area(address: u16) -> bool
     ensures { result ≡ is_area address }
 {
@@ -187,7 +181,6 @@ fn in_sets(words: &[u16; 144], sets: usize) -> Option<BrokenRule>
     None
 }
 
-/// The use word of a VAC area, 1 to 5: 0 where a job owns it, otherwise its address.
 fn use_word(words: &[u16; 144], sets: usize, area: usize) -> u16
     requires sets { sets ≤ 8 }
     requires area { (1 ≤ area) × (area ≤ 5) }
@@ -215,8 +208,6 @@ fn in_areas(words: &[u16; 144], sets: usize) -> Option<BrokenRule>
     None
 }
 
-/// Whether the job of a core set goes before that of another: of two awake jobs the one with the
-/// higher priority, and of equals the one with the lower number.
 fn is_better(words: &[u16; 144], set: usize, best: usize) -> bool
     requires set { set ≤ 7 }
     requires best { best ≤ 7 }
@@ -228,7 +219,6 @@ fn is_better(words: &[u16; 144], set: usize, best: usize) -> bool
     is_awake(words, set) && (!is_awake(words, best) || that < this || (that == this && is_first))
 }
 
-/// Of two core sets the one whose job goes before the other's.
 fn better(words: &[u16; 144], best: usize, set: usize) -> usize
     requires best { best ≤ 7 }
     requires set { set ≤ 7 }
@@ -242,7 +232,6 @@ fn better(words: &[u16; 144], best: usize, set: usize) -> usize
     }
 }
 
-/// The core set of the best job.
 #[tactic(auto, unfolding(crate::specs::Rules::best_set))]
 fn best_set(words: &[u16; 144], sets: usize) -> usize
     requires { sets ≤ 8 }
@@ -256,7 +245,6 @@ fn best_set(words: &[u16; 144], sets: usize) -> usize
     best
 }
 
-/// NEWJOB, where this is the core set of the best job.
 fn newjob_naming(words: &[u16; 144], best: usize) -> u16
     requires { best ≤ 7 }
     ensures { result ≡ newjob_naming words.now best }
@@ -282,7 +270,6 @@ fn in_newjob(words: &[u16; 144], sets: usize) -> Option<BrokenRule>
     None
 }
 
-/// How many tasks wait: those before the first empty place.
 #[tactic(auto, unfolding(crate::specs::Rules::tasks_before))]
 fn tasks_in(words: &[u16; 144]) -> usize
     ensures count { result ≡ tasks_in words.now }
@@ -299,7 +286,6 @@ fn tasks_in(words: &[u16; 144]) -> usize
     count
 }
 
-/// The centiseconds that are left to the first task, by TIME3.
 fn first_left(word: u16) -> u32
     ensures value { result ≡ first_left word }
     ensures bound { result ≤ 16384 }
@@ -311,7 +297,6 @@ fn first_left(word: u16) -> u32
     }
 }
 
-/// How many centiseconds the next task is later, by a word of LST1.
 fn gap_of(word: u16) -> u32
     ensures value { result ≡ gap_of word }
     ensures bound { result ≤ 16384 }
@@ -323,7 +308,6 @@ fn gap_of(word: u16) -> u32
     }
 }
 
-/// The centiseconds that are left to the task at a place.
 #[tactic(auto, unfolding(crate::specs::Rules::left_at))]
 fn left_at(words: &[u16; 144], place: usize) -> u32
     requires { place < 9 }
@@ -413,7 +397,6 @@ fn in_phases(words: &[u16; 144]) -> Option<BrokenRule>
     None
 }
 
-/// Whether this is the word of an alarm's code.
 fn is_code(word: u16) -> bool
     ensures { result ≡ is_code word }
 {
@@ -453,8 +436,41 @@ fn in_others(words: &[u16; 144]) -> Option<BrokenRule>
         .or(in_failreg(words))
 }
 
-/// The first rule of lawful words that those of seven or eight core sets break; None if they break
-/// none.
+/// The rule that TIME3 breaks where a task is due.
+fn in_due(words: &[u16; 144]) -> Option<BrokenRule>
+    ensures { (sets : ℕ) → IsFound words.now sets result }
+{
+    if words[TIME3] == 0 && tasks_in(words) > 0 {
+        at(Rule::NoneDue, TIME3)
+    } else {
+        None
+    }
+}
+
+/// The rule that MODE and PUSHLOC of jobs break, or gaps, as no step leaves them.
+fn in_untidy(words: &[u16; 144], sets: usize) -> Option<BrokenRule>
+    requires { sets ≤ 8 }
+    ensures { IsFound words.now sets result }
+{
+    for set in 0..sets {
+        let place = set_place(set);
+        if is_held(words, set) && words[place + 7] != 0 {
+            return right(Rule::JobTidy, place + 7, 0);
+        }
+        if is_held(words, set) && words[place + 10] != 0 {
+            return right(Rule::JobTidy, place + 10, 0);
+        }
+    }
+    for place in LST1..LST2 {
+        if words[place] == 0o77777 {
+            return right(Rule::GapTidy, place, 0);
+        }
+    }
+    None
+}
+
+/// The first rule that the words of seven or eight core sets break: those of lawful words, then
+/// those that each step keeps besides. None if they break none.
 pub fn first_broken(words: &[u16; 144], sets: usize) -> Option<BrokenRule>
     requires { sets ≤ 8 }
     ensures { IsFound words.now sets result }
@@ -464,4 +480,6 @@ pub fn first_broken(words: &[u16; 144], sets: usize) -> Option<BrokenRule>
         .or(in_areas(words, sets))
         .or(in_newjob(words, sets))
         .or(in_others(words))
+        .or(in_due(words))
+        .or(in_untidy(words, sets))
 }

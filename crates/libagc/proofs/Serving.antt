@@ -4,7 +4,8 @@ use Rattle.agc_word.specs.Layout.{Keeps, OutsideWaitlist, OutsidePhases}
 use Rattle.agc_wait.specs.Table as table
 use Rattle.agc_phase.specs.Image as phases
 use Rattle.agc_image.specs.Images.{IsSets, IsImage, IsOpened, IsWritten, Changed}
-use Rattle.libagc.specs.Codes.{Coded, NoImage}
+use Rattle.libagc.specs.Codes.{NoImage}
+use Rattle.libagc.specs.Stepping.{Allows}
 use Rattle.agc_image.proofs.Frames.{changed, lawful_by_waits, lawful_by_phases}
 
 -- a test answered no
@@ -15,7 +16,7 @@ false_no P answer iff off p = let on : IsTrue answer = iff.1 p in grind (arith, 
 sets_most : (sets : ℕ) → IsSets sets → sets ≤ 8
 sets_most sets valid = elim valid [ inl seven ↦ omega arith | inr eight ↦ omega arith ]
 
-pub few_sets : (code sets : ℕ) (array : List ℕ) → Coded code sets array 0 → 2 ≤ code → sets ≤ 8
+pub few_sets : (code sets : ℕ) (array : List ℕ) → Allows code sets array → 2 ≤ code → sets ≤ 8
 unfolding NoImage
 few_sets code sets array coded some = elim coded [
   | inl image ↦ sets_most sets image.0.count

@@ -85,11 +85,6 @@ reply_to_c (reply.Ticked None) = reply_with 12 0
 reply_to_c (reply.Ticked (Some alarm)) = reply_with 13 (alarm_code alarm)
 reply_to_c reply.Restarted = reply_with 14 0
 
--- the number of a job, 0 for none
-abbrev pub number_to_c : Option ℕ → ℕ
-number_to_c None = 0
-number_to_c (Some number) = number
-
 -- a call was not served
 abbrev pub refusal : ℕ → AgcReply
 refusal code = record { code = code; reply = 0; number = 0 }

@@ -1,6 +1,6 @@
 -- All that the tables hold, in numbers.
 use Rattle.std.specs.Prelude.{ℕ, ◌+◌, nat_lt, ◌==◌, false, if◌then◌else◌, List, [], ◌∷◌, map}
-use Rattle.std.specs.Prelude.{replicate}
+use Rattle.std.specs.Prelude.{replicate, unwrap_or}
 use Rattle.std.specs.Prelude.{Option, Some, None, slice_get, slice_index}
 use Rattle.std.specs.List.{range_with_len}
 use Rattle.std.specs.Option.{option_flatten}
@@ -12,7 +12,6 @@ use Rattle.agc_exec.specs.declared.seats.Seat.{Seat}
 use Rattle.agc_phase.specs.Image.{base_of, failreg_words}
 use Rattle.agc_wait.specs.Table.{waits_of}
 use Rattle.agc_image.specs.Images.{image_of}
-use Rattle.libagc.specs.Codes.{number_to_c}
 use Rattle.libagc.specs.declared.scene.AgcJob.{AgcJob}
 use Rattle.libagc.specs.declared.scene.AgcScene.{AgcScene}
 use Rattle.libagc.specs.declared.scene.AgcWaiting.{AgcWaiting}
@@ -73,11 +72,11 @@ task_to_c (Some waiting) = record {
 abbrev pub task_in : List Waiting → ℕ → AgcWaiting
 task_in waits place = task_to_c (slice_get waits place)
 
--- all of it: who runs, whom NEWJOB names, sets, areas, tasks, phases and codes
+-- all of it: who runs, whom NEWJOB names, 0 for none, sets, areas, tasks, phases and codes
 abbrev pub scene_to_c : ℕ → List ℕ → AgcScene
 scene_to_c sets words = record {
-  running = number_to_c (runner_in (image_of sets words));
-  next = number_to_c (named_of (jobs_in (image_of sets words)));
+  running = unwrap_or (runner_in (image_of sets words)) 0;
+  next = unwrap_or (named_of (jobs_in (image_of sets words))) 0;
   sets = sets_to_c sets words;
   areas = map (owner_in (sets_to_c sets words)) (range_with_len 1 5);
   tasks = map (task_in (waits_of (image_of sets words))) (range_with_len 0 9);

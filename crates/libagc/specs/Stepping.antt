@@ -103,6 +103,11 @@ Lacks code words plan =
     ⊎ (((is_due (waits_of words) ≡ false) × ¬ IsReady words × (code ≡ 8))
     ⊎ (IsReady words × (code ≡ plan)))
 
+-- the code of an array on which a step is to be asked, by no plan: of its image, or its time
+abbrev pub Allows : ℕ → ℕ → List ℕ → Type 0
+Allows code sets array =
+    (IsImage sets array × Lacks code (image_of sets array) 0) ⊎ NoImage code sets array
+
 -- the code of a step: the first that isn't 0 of its image's, its request's, its time's and its
 -- plan's
 abbrev pub StepCoded : ℕ → ℕ → List ℕ → AgcRequest → ℕ → Type 0

@@ -67,7 +67,6 @@ fn are_actions(actions: &[AgcRequest]) -> bool
     actions.iter().all(|action| is_action(action))
 }
 
-/// Whether these are at most four actions.
 fn are_few(actions: &[AgcRequest]) -> bool
     ensures { result ≡ are_few actions.now }
 {

@@ -18,7 +18,6 @@ use agc_clock::{Clock, Source};
 use agc_image::{blank_image, open};
 use agc_word::Erasable;
 
-/// The number of a request's source.
 fn source_of(source: Source) -> u32
     ensures { result ≡ source_to_c source }
 {
@@ -112,7 +111,6 @@ pub extern "C" fn agc_clock_next_trusted(
     ask_clock(table, &image, clock, request)
 }
 
-/// Whether an era began with a step.
 fn began(step: &AgcStep) -> bool
     ensures { result ≡ begins_era step.now }
 {
@@ -161,7 +159,6 @@ pub extern "C" fn agc_clock_served_trusted(
     0
 }
 
-/// The code of the alarm of a step, 0 if it has none.
 fn alarm_of(step: &AgcStep) -> u32
     ensures { result ≡ alarm_to_c step.now }
 {

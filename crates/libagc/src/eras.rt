@@ -21,7 +21,6 @@ use agc_machine::begin;
 use agc_phase::{record_alarm, recover_into};
 use agc_word::{Erasable, Sets, Word};
 
-/// The code of an alarm's number: 0 if it is 0 or an alarm to be recorded.
 fn alarm_lack(alarm: u32) -> u32
     ensures { result ≡ alarm_lack alarm }
 {
@@ -102,7 +101,6 @@ pub extern "C" fn agc_record_alarm(words: &mut [u16; 144], sets: u32, alarm: u32
     }
 }
 
-/// The number of code 01107, where phase words don't agree.
 fn power_number(recovered: bool) -> u32
     ensures { result ≡ power_number recovered }
 {

@@ -1,15 +1,17 @@
-// The first word of an array that isn't lawful, and the word that would be.
-ghost use Rattle.std.specs.Prelude.{◌≡◌, ◌<◌, ◌≤◌, slice_index};
-ghost use Rattle.libagc.specs.Codes.{Coded, IsBroken, only_code};
+// The first word of an array on which no step is asked, and the word that would be right.
+ghost use Rattle.std.specs.Prelude.{◌≡◌, ◌⊎◌, ◌<◌, ◌≤◌, slice_index};
+ghost use Rattle.libagc.specs.Codes.{IsBroken, only_code};
+ghost use Rattle.libagc.specs.Stepping.{Allows};
 
 use crate::fault::image_in;
+use crate::ready::unready;
 use agc_image::first_broken;
 
-/// The reason why words aren't lawful: the first word that breaks a rule.
+/// The reason why no step is asked on words: the first word that breaks a rule.
 #[repr(C)]
 #[derive(Clone, Copy)]
 pub struct AgcFinding {
-    /// 0 to 3.
+    /// 0 to 3, 6 or 8.
     pub code: u32,
     /// 0 if the code is 0 or 1.
     pub rule: u32,
@@ -62,29 +64,33 @@ fn finding_to_c(words: &[u16; 144], sets: usize, code: u32) -> AgcFinding
     }
 }
 
-/// The code of an array that is to have an image.
-fn image_code(words: &[u16; 144], sets: u32) -> u32
-    ensures { Coded result sets words.now 0 }
+/// The code of an array on which a step is to be asked.
+fn array_code(words: &[u16; 144], sets: u32) -> u32
+    ensures { Allows result sets words.now }
 {
     match image_in(words, sets) {
-        Ok(_image) => 0,
         Err(fault) => fault.code(),
+        Ok(image) => match unready(&image) {
+            Some(fault) => fault.code(),
+            None => 0,
+        },
     }
 }
 
-/// The reason why the array has no image of this many core sets: the code of the calls on it, and
-/// the first word that breaks a rule: its place, the number there, and the one that would be right,
-/// if the other words leave only one choice.
+/// The reason why `agc_step` is served on this array by no plan and no request: its code, 1 to 3
+/// for the image, 6 where a task is due, 8 if the words are such as no step leaves; and the first
+/// word that breaks a rule: its place, the number there, and the one that would be right, if the
+/// other words leave only one choice.
 #[unsafe(no_mangle)]
 #[tactic(auto, using(crate::proofs::Serving::few_sets))]
 pub extern "C" fn agc_explain(words: &[u16; 144], sets: u32) -> AgcFinding
-    ensures code { Coded result.code sets words.now 0 }
+    ensures code { Allows result.code sets words.now }
     ensures alone { result.code < 2 → result ≡ only_code result.code }
     ensures place { result.place < 144 }
     ensures found { 2 ≤ result.code → result.found ≡ slice_index words.now result.place }
     ensures rule { ¬ (result.rule ≡ 0) → IsBroken result.rule words.now sets result.place }
 {
-    let code = image_code(words, sets);
+    let code = array_code(words, sets);
     if code < 2 {
         AgcFinding::only(code)
     } else {

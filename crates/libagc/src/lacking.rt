@@ -14,7 +14,6 @@ use crate::plans::{AgcPhaseEntry, AgcPlan, AgcRow, job_of, listed_of};
 use crate::reading::{AgcRequest, request_of, task_of};
 use agc_plan::wants_area;
 
-/// Whether a task has a row.
 fn has_row(rows: &[AgcRow], at: u32, bank: u32) -> bool
     ensures { result ≡ has_task (rows_from_c rows.now) (record { at = at; bank = bank }) }
 {
@@ -26,7 +25,6 @@ fn has_row(rows: &[AgcRow], at: u32, bank: u32) -> bool
     false
 }
 
-/// Whether one task has two rows.
 fn task_twice(rows: &[AgcRow]) -> bool
     ensures { result ≡ task_twice (rows_from_c rows.now) }
 {
@@ -38,7 +36,6 @@ fn task_twice(rows: &[AgcRow]) -> bool
     false
 }
 
-/// Whether a group's phase has an entry.
 fn has_entry(entries: &[AgcPhaseEntry], group: u32, phase: u32) -> bool
     ensures { result ≡ has_entry (entries_from_c entries.now) group phase }
 {
@@ -50,7 +47,6 @@ fn has_entry(entries: &[AgcPhaseEntry], group: u32, phase: u32) -> bool
     false
 }
 
-/// Whether a group's phase has two entries.
 fn phase_twice(entries: &[AgcPhaseEntry]) -> bool
     ensures { result ≡ phase_twice (entries_from_c entries.now) }
 {
@@ -62,7 +58,6 @@ fn phase_twice(entries: &[AgcPhaseEntry]) -> bool
     false
 }
 
-/// Whether an entry of the group names a job with an area.
 fn group_wants(entries: &[AgcPhaseEntry], group: u32) -> bool
     ensures { result ≡ group_wants (entries_from_c entries.now) group }
 {
@@ -74,7 +69,6 @@ fn group_wants(entries: &[AgcPhaseEntry], group: u32) -> bool
     false
 }
 
-/// Whether each of the six groups has an entry that wants a VAC area.
 fn all_want(entries: &[AgcPhaseEntry]) -> bool
     ensures { result ≡ all_want (entries_from_c entries.now) }
 {
@@ -86,7 +80,6 @@ fn all_want(entries: &[AgcPhaseEntry]) -> bool
         && group_wants(entries, 6)
 }
 
-/// Whether numbers are an action.
 // Most rows have fewer than four, so the test for none is in line.
 #[inline(always)]
 pub(crate) fn is_action(a: &AgcRequest) -> bool
@@ -99,7 +92,6 @@ pub(crate) fn is_action(a: &AgcRequest) -> bool
     }
 }
 
-/// Whether numbers are a row.
 fn is_row(row: &AgcRow) -> bool
     ensures { result ≡ is_row row.now }
 {
@@ -110,7 +102,6 @@ fn is_row(row: &AgcRow) -> bool
         && is_action(&row.fourth)
 }
 
-/// Whether numbers are an entry.
 fn is_entry(e: &AgcPhaseEntry) -> bool
     ensures { result ≡ is_entry e.now }
 {

@@ -13,7 +13,6 @@ use crate::reading::AgcRequest;
 use agc_plan::{Action, Entry, Priority, Request, action_request};
 use agc_text::{parse_action, parse_line};
 
-/// A request of this kind, with these numbers.
 pub(crate) fn request_with(kind: u32, first: u32, second: u32, third: u32) -> AgcRequest
     ensures { result ≡ request_with kind first second third }
 {
@@ -37,7 +36,6 @@ fn starting(kind: u32, priority: Priority, entry: Entry) -> AgcRequest
     )
 }
 
-/// The numbers of a request.
 pub(crate) fn numbers_of(request: &Request) -> AgcRequest
     ensures { result ≡ numbers_of request.now }
 {
@@ -70,7 +68,6 @@ pub(crate) fn numbers_of(request: &Request) -> AgcRequest
     }
 }
 
-/// The numbers of an action.
 fn action_numbers(action: &Action) -> AgcRequest
     ensures { result ≡ action_numbers action.now }
 {

@@ -49,7 +49,6 @@ pub struct AgcPlan<'a> {
     pub entries: &'a [AgcPhaseEntry],
 }
 
-/// An action of these numbers.
 pub(crate) fn action_of(a: &AgcRequest) -> Action
     ensures { result ≡ action_from_c a.now }
 {
@@ -82,7 +81,6 @@ fn put_actions(row: &AgcRow, room: &mut Actions)
     room.push(action_of(&row.fourth));
 }
 
-/// The job of an entry.
 pub(crate) fn job_of(e: &AgcPhaseEntry) -> Option<JobStart>
     ensures { result ≡ job_told e.now }
 {
@@ -97,7 +95,6 @@ pub(crate) fn job_of(e: &AgcPhaseEntry) -> Option<JobStart>
     }
 }
 
-/// The task of an entry.
 pub(crate) fn listed_of(e: &AgcPhaseEntry) -> Option<(Delay, Task)>
     ensures { result ≡ listed_from_c e.now }
 {

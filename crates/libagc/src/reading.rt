@@ -24,7 +24,6 @@ pub struct AgcRequest {
     pub third: u32,
 }
 
-/// Where a job begins.
 fn entry_of(at: u32, bank: u32) -> Option<Entry>
     ensures { result ≡ entry_from_c at bank }
 {
@@ -33,7 +32,6 @@ fn entry_of(at: u32, bank: u32) -> Option<Entry>
     Some(Entry { at, bank })
 }
 
-/// A task.
 pub(crate) fn task_of(at: u32, bank: u32) -> Option<Task>
     ensures { result ≡ task_told at bank }
 {
@@ -42,14 +40,12 @@ pub(crate) fn task_of(at: u32, bank: u32) -> Option<Task>
     Some(Task { at, bank })
 }
 
-/// A job's priority and where it begins.
 pub(crate) fn start_of(number: u32, at: u32, bank: u32) -> Option<(Priority, Entry)>
     ensures { result ≡ start_from_c number at bank }
 {
     priority(number).zip(entry_of(at, bank))
 }
 
-/// A task and its delay.
 pub(crate) fn listing_of(number: u32, at: u32, bank: u32) -> Option<(Delay, Task)>
     ensures { result ≡ listing_from_c number at bank }
 {
@@ -88,7 +84,6 @@ pub(crate) fn request_of(request: &AgcRequest) -> Option<Request>
     }
 }
 
-/// A request with 0 in place of its word.
 fn without_word(request: &AgcRequest) -> AgcRequest
     ensures { result ≡ without_word request.now }
 {

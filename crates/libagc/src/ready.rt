@@ -1,10 +1,15 @@
 // Whether a caller's words are as each step leaves them.
-ghost use Rattle.std.specs.Prelude.{◌≡◌, ◌<◌, true, false, [], slice_index_or};
+ghost use Rattle.std.specs.Prelude.{◌≡◌, ◌<◌, true, false, [], slice_index_or, IfSome, IfNone, ℕ};
+ghost use Rattle.agc_image.specs.Images.{IsLawful};
+ghost use Rattle.agc_machine.specs.Stands.{IsReady};
+ghost use Rattle.libagc.specs.Codes.{code_of};
+ghost use Rattle.libagc.specs.Stepping.{Lacks};
 ghost use Rattle.agc_word.specs.Layout.{IsSized, sets_in};
 ghost use Rattle.agc_exec.specs.Blocks.{blocks_of};
 ghost use Rattle.agc_exec.specs.Image as cores;
 ghost use Rattle.agc_wait.specs.Table as table;
 
+use crate::fault::Fault;
 use agc_word::Erasable;
 use agc_word::layout::{LST1, set_place};
 
@@ -56,7 +61,7 @@ fn are_tidy_gaps(e: &Erasable) -> bool
 }
 
 /// Whether words are as a step leaves them, once they are lawful and no task is due.
-pub(crate) fn is_tidy(e: &Erasable) -> bool
+fn is_tidy(e: &Erasable) -> bool
     requires { IsSized e.now }
     ensures yes { result ≡ true → cores.IsTidy e.now × table.IsTidy e.now }
     ensures no { cores.IsTidy e.now × table.IsTidy e.now → result ≡ true }
@@ -65,4 +70,19 @@ pub(crate) fn is_tidy(e: &Erasable) -> bool
         return false;
     }
     are_tidy_gaps(e)
+}
+
+/// The fault of lawful words on which a step is to be asked.
+pub(crate) fn unready(image: &Erasable) -> Option<Fault>
+    requires { IsLawful image.now }
+    ensures lacks { IfSome result (λ fault. (plan : ℕ) → Lacks (code_of fault) image.now plan) }
+    ensures ready { IfNone result (IsReady image.now) }
+{
+    if agc_wait::due(image) {
+        Some(Fault::NotNow)
+    } else if !is_tidy(image) {
+        Some(Fault::Untidy)
+    } else {
+        None
+    }
 }

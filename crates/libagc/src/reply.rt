@@ -27,7 +27,6 @@ fn alarm_code(alarm: Alarm) -> u32
 }
 
 impl AgcReply {
-    /// A reply of this kind, with this number.
     fn reply_with(reply: u32, number: u32) -> AgcReply
         ensures { result ≡ record { code = 0; reply = reply; number = number } }
     {
@@ -82,7 +81,6 @@ pub struct AgcNumber {
 }
 
 impl AgcNumber {
-    /// A number that a call tells.
     pub(crate) fn of(number: u32) -> AgcNumber
         ensures { result ≡ record { code = 0; number = number } }
     {

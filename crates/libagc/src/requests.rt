@@ -23,7 +23,6 @@ use agc_plan::{Alarm, Reply, Request};
 use agc_wait::{count_time3, dispatch, due, list};
 use agc_word::Erasable;
 
-/// The reply to a listing.
 fn listing(accepted: bool) -> Reply
     ensures { result ≡ listing accepted }
 {
@@ -94,7 +93,6 @@ fn serve(request: &Request, e: &mut Erasable) -> Reply
     }
 }
 
-/// Whether the request is a tick, and a task is due before it.
 fn is_late(request: &Request, e: &Erasable) -> bool
     requires { IsLawful e.now }
     ensures { result ≡ is_late request.now e.now }

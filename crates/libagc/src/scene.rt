@@ -3,7 +3,7 @@ ghost use Rattle.std.specs.Prelude.{◌≡◌, ◌≤◌, ◌<◌, map};
 ghost use Rattle.std.specs.List.{range_with_len};
 ghost use Rattle.agc_phase.specs.Image.{failreg_word};
 ghost use Rattle.agc_wait.specs.Table.{IsLawfulTable, waits_of};
-ghost use Rattle.libagc.specs.Codes.{Coded, number_to_c};
+ghost use Rattle.libagc.specs.Codes.{Coded};
 ghost use Rattle.agc_image.specs.Images.{IsOpened, IsSets};
 ghost use Rattle.libagc.specs.Scenes.{job_to_c, no_job, owner_in, scene_to_c, set_to_c, sets_to_c};
 ghost use Rattle.libagc.specs.Scenes.{task_in, work_at};
@@ -63,7 +63,6 @@ pub struct AgcScene {
     pub phases: [u8; 6],
 }
 
-/// No job, of a free set.
 fn no_job() -> AgcJob
     ensures { result ≡ no_job }
 {
@@ -78,7 +77,6 @@ fn no_job() -> AgcJob
     }
 }
 
-/// The six work words of the set that begins at a place.
 fn work_at(words: &[u16; 144], place: usize) -> [u16; 6]
     requires { place ≤ 132 }
     ensures { result ≡ work_at place words.now }
@@ -93,7 +91,6 @@ fn work_at(words: &[u16; 144], place: usize) -> [u16; 6]
     ]
 }
 
-/// The job in a core set, in numbers.
 fn job_to_c(words: &[u16; 144], set: usize, seat: Option<Seat>) -> AgcJob
     requires { set ≤ 7 }
     ensures { result ≡ job_to_c set words.now seat }
@@ -112,7 +109,6 @@ fn job_to_c(words: &[u16; 144], set: usize, seat: Option<Seat>) -> AgcJob
     }
 }
 
-/// The job in a core set; no job beyond the last set.
 fn set_to_c(words: &[u16; 144], sets: u32, image: &Erasable, set: usize) -> AgcJob
     requires sets { IsSets sets }
     requires opened { IsOpened sets words.now image.now }
@@ -126,7 +122,6 @@ fn set_to_c(words: &[u16; 144], sets: u32, image: &Erasable, set: usize) -> AgcJ
     }
 }
 
-/// The jobs in the core sets, in numbers.
 fn sets_to_c(words: &[u16; 144], sets: u32, image: &Erasable) -> [AgcJob; 8]
     requires sets { IsSets sets }
     requires opened { IsOpened sets words.now image.now }
@@ -144,7 +139,6 @@ fn sets_to_c(words: &[u16; 144], sets: u32, image: &Erasable) -> [AgcJob; 8]
     ]
 }
 
-/// The number of the job that owns an area, 0 for none.
 #[tactic(auto, unfolding(crate::specs::Scenes::owner_in))]
 fn owner_in(sets: &[AgcJob; 8], area: u32) -> u32
     ensures { result ≡ owner_in sets.now area }
@@ -175,7 +169,6 @@ fn task_in(waits: &[Waiting], place: usize) -> AgcWaiting
     }
 }
 
-/// The tasks that wait, in numbers.
 fn tasks_to_c(image: &Erasable) -> [AgcWaiting; 9]
     requires { IsLawfulTable image.now }
     ensures { result ≡ map (task_in (waits_of image.now)) (range_with_len 0 9) }
@@ -195,16 +188,6 @@ fn tasks_to_c(image: &Erasable) -> [AgcWaiting; 9]
     ]
 }
 
-/// The number of a job, 0 for none.
-fn number_of(job: Option<u16>) -> u32
-    ensures { result ≡ number_to_c job }
-{
-    match job {
-        Some(number) => u32::from(number),
-        None => 0,
-    }
-}
-
 /// A word of FAILREG, by its place.
 fn failreg_at(image: &Erasable, place: usize) -> u32
     requires { place < 3 }
@@ -213,7 +196,6 @@ fn failreg_at(image: &Erasable, place: usize) -> u32
     u32::from(failreg(image)[place].bits())
 }
 
-/// The phases as numbers.
 fn numbers_of(phases: &Phases) -> [u8; 6]
     ensures { result ≡ phases.now }
 {
@@ -224,7 +206,6 @@ fn numbers_of(phases: &Phases) -> [u8; 6]
     numbers
 }
 
-/// All that an open image holds, in numbers.
 fn scene_to_c(words: &[u16; 144], sets: u32, image: &Erasable) -> AgcScene
     requires sets { IsSets sets }
     requires opened { IsOpened sets words.now image.now }
@@ -232,8 +213,8 @@ fn scene_to_c(words: &[u16; 144], sets: u32, image: &Erasable) -> AgcScene
 {
     let jobs = sets_to_c(words, sets, image);
     AgcScene {
-        running: number_of(running(image).map(|job| u16::from(job.get()))),
-        next: number_of(named_job(image)),
+        running: running(image).map_or(0, |job| u32::from(job.get())),
+        next: named_job(image).map_or(0, |number| u32::from(number)),
         sets: jobs,
         areas: [
             owner_in(&jobs, 1),

@@ -16,7 +16,7 @@ use crate::fault::{Fault, image_in};
 use crate::lacking::plan_lacks;
 use crate::plans::AgcPlan;
 use crate::reading::{AgcRequest, request_fault, request_of};
-use crate::ready::is_tidy;
+use crate::ready::unready;
 use crate::reply::AgcReply;
 use agc_image::{blank_image, open, write_back};
 use agc_machine::{act_words, finish_words};
@@ -89,14 +89,10 @@ fn hand_out(list: &Fired, fired: &mut [AgcFired; 9])
     }
 }
 
-/// The number of an action.
 fn action_to_c(number: usize) -> u32
     ensures { result ≡ action_to_c number }
 {
-    match u32::try_from(number) {
-        Ok(number) => number,
-        Err(_) => 0,
-    }
+    u32::try_from(number).unwrap_or(0)
 }
 
 /// Begins an era in the image of an array, if one begins with the reply.
@@ -157,12 +153,9 @@ fn lacks(image: &Erasable, plan: &AgcPlan<'_>) -> Option<Fault>
     ensures { Lacks (code_for result) image.now
         (code_for (lacking plan.now.rows.now plan.now.entries.now)) }
 {
-    if agc_wait::due(image) {
-        Some(Fault::NotNow)
-    } else if !is_tidy(image) {
-        Some(Fault::Untidy)
-    } else {
-        plan_lacks(plan.rows, plan.entries)
+    match unready(image) {
+        Some(fault) => Some(fault),
+        None => plan_lacks(plan.rows, plan.entries),
     }
 }
 

@@ -16,14 +16,12 @@ use agc_clock::{LAST_TIME, Stolen, step_of};
 /// The greatest cost, in hundredths of a centisecond.
 const MOST_COST: u32 = 100000000;
 
-/// Whether numbers are a row of stolen time.
 fn is_steal(row: &Stolen) -> bool
     ensures { result ≡ is_steal row.now }
 {
     row.from < row.to && row.percent <= 100 && (row.every == 0 || row.to - row.from <= row.every)
 }
 
-/// Whether numbers are a request that is a step of a job.
 fn is_step(numbers: &AgcRequest) -> bool
     ensures { result ≡ is_step numbers.now }
 {
@@ -33,14 +31,12 @@ fn is_step(numbers: &AgcRequest) -> bool
     }
 }
 
-/// Whether all requests are steps of a job.
 fn are_steps(requests: &[AgcRequest]) -> bool
     ensures { result ≡ list_all is_step requests.now }
 {
     requests.iter().all(|request| is_step(request))
 }
 
-/// Whether numbers are a cost, of a job that asks for some of these requests.
 fn is_cost(row: &AgcCost, requests: &[AgcRequest]) -> bool
     ensures { result ≡ is_cost requests.now row.now }
 {
@@ -53,7 +49,6 @@ fn is_cost(row: &AgcCost, requests: &[AgcRequest]) -> bool
         && are_steps(requests_from(requests, row.first, row.count))
 }
 
-/// Whether numbers are an event's, which asks for some of this many requests.
 fn is_event(row: &AgcEvent, requests: usize) -> bool
     ensures { result ≡ is_event requests row.now }
 {
@@ -65,14 +60,12 @@ fn is_event(row: &AgcEvent, requests: usize) -> bool
         && row.first as usize + row.count as usize <= requests
 }
 
-/// Whether a row of stolen time overlaps another.
 fn meets(row: &Stolen, others: &[Stolen]) -> bool
     ensures { result ≡ list_any (overlap row.now) others.now }
 {
     others.iter().any(|other| row.overlaps(other))
 }
 
-/// Whether two rows of stolen time overlap.
 fn steals_twice(rows: &[Stolen]) -> bool
     ensures { result ≡ steals_twice rows.now }
 {
@@ -84,14 +77,12 @@ fn steals_twice(rows: &[Stolen]) -> bool
     false
 }
 
-/// Whether an address has a cost.
 fn has_cost(at: u32, rows: &[AgcCost]) -> bool
     ensures { result ≡ list_any (λ row. row.at == at) rows.now }
 {
     rows.iter().any(|row| row.at == at)
 }
 
-/// Whether an address has two costs.
 fn costs_twice(rows: &[AgcCost]) -> bool
     ensures { result ≡ costs_twice rows.now }
 {
@@ -127,7 +118,6 @@ fn are_requests(requests: &[AgcRequest]) -> bool
     requests.iter().all(|request| request_of(request).is_some())
 }
 
-/// Whether the numbers of all rows are in range.
 fn are_in_range(
     stolen: &[Stolen],
     costs: &[AgcCost],

@@ -65,7 +65,6 @@ pub struct AgcTimetable<'a> {
     pub requests: &'a [AgcRequest],
 }
 
-/// The last address.
 fn last_address() -> Address
     ensures { result ≡ 16383 }
 {
@@ -82,7 +81,6 @@ fn address_for(number: u32) -> Address
     address(number).unwrap_or(last_address())
 }
 
-/// The way in which a job leaves.
 fn then_of(number: u32) -> Then
     ensures { result ≡ then_from_c number }
 {
@@ -93,14 +91,12 @@ fn then_of(number: u32) -> Then
     }
 }
 
-/// An event's times, whatever they count from.
 fn distances_of(row: &AgcEvent) -> Times
     ensures { result ≡ distances_from_c row.now }
 {
     Times::repeated(row.at, row.every, row.until).unwrap_or(Times::once(row.at))
 }
 
-/// When an event comes.
 fn times_of(row: &AgcEvent) -> Times
     ensures { result ≡ times_from_c row.now }
 {
@@ -165,7 +161,6 @@ fn step_in(requests: &[AgcRequest], number: usize) -> Option<Step>
     }
 }
 
-/// The steps of a job.
 fn steps_of(requests: &[AgcRequest], row: &AgcCost) -> [Option<Step>; 7]
     ensures { result ≡ steps_from_c requests.now row.now }
 {
@@ -181,7 +176,6 @@ fn steps_of(requests: &[AgcRequest], row: &AgcCost) -> [Option<Step>; 7]
     ]
 }
 
-/// The cost of a job.
 fn cost_of(requests: &[AgcRequest], row: &AgcCost) -> Cost
     ensures { result ≡ cost_from_c requests.now row.now }
 {

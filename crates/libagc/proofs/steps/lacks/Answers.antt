@@ -1,27 +1,9 @@
-use Rattle.std.proofs.Common.{◌≡◌, true, false, refl, ap, sym, ◌∙◌, inl, inr, rules}
-use Rattle.agc_machine.proofs.Frames.{none_counted}
+use Rattle.std.proofs.Common.{ap, inr}
 use Rattle.libagc.specs.Codes.{code_for}
 use Rattle.libagc.proofs.steps.lacks.Goals as goal
 
-pub returns-then-not-is_tidy : goal.returns-then-not-is_tidy
-returns-then-not-is_tidy c =
-    let off : c.is_tidy.result ≡ false = search rules in
-    inr (inl (sym c.due.ensures.value ∙ c.if-due.false, (λ ready. absurd (let never : false ≡ true = sym off ∙ c.is_tidy.ensures.no (ready.sound.tidy_cores, ready.sound.tidy_waits) in cc)), refl))
+pub returns-in-Some : goal.returns-in-Some
+returns-in-Some c = c.in-Some.ensures.lacks _
 
-pub returns-else-not-is_tidy : goal.returns-else-not-is_tidy
-returns-else-not-is_tidy c =
-    let tidy = c.is_tidy.ensures.yes (search rules) in
-    inr (inr (
-      record {
-        sound = record {
-          size = c.requires.cores.sets.sized;
-          tidy_cores = tidy.0;
-          tidy_waits = tidy.1;
-          cores = c.requires.cores;
-          waits = c.requires.waits;
-          phases = c.requires.phases;
-        };
-        none_due = none_counted c.args.image.now c.requires.waits (sym c.due.ensures.value ∙ c.if-due.false);
-      },
-      ap code_for c.plan_lacks.ensures.first,
-    ))
+pub returns-in-None : goal.returns-in-None
+returns-in-None c = inr (inr (c.in-None.ensures.ready, ap code_for c.plan_lacks.ensures.first))
