@@ -1,9 +1,8 @@
 -- How a run can end whose words are refused.
 use Rattle.std.proofs.Common.{◌≡◌, ◌⊎◌, ℕ, List, [], ◌∷◌, Result, Ok, Err, IsErrAnd, inl, inr, ap, sym, subst, ◌∙◌}
-use Rattle.agc_program.specs.declared.fault.ProgramFault.{ProgramFault}
-use Rattle.agc_program.specs.declared.fault.ProgramFault.TheVariants as fault
+use Rattle.agc.specs.declared.fault.ProgramFault.{ProgramFault}
+use Rattle.agc.specs.declared.fault.ProgramFault.TheVariants as fault
 use Rattle.agc.specs.declared.mode.Mode.{Mode}
-use Rattle.agc_program.proofs.Ends.{no_first}
 use Rattle.agc.specs.Modes.{AskFor, mode_name}
 use Rattle.agc.specs.Program.{EndsFor}
 
@@ -21,6 +20,10 @@ pub ends_refused : (words : List (List ℕ)) (why : ProgramFault) (outcome : Res
 ends_refused words why (Ok done) gives none is = absurd gives
 ends_refused words why (Err e) gives none (inl is) = inr (inr (none is, ap Err (gives ∙ is)))
 ends_refused words why (Err e) gives none (inr is) = inr (inl (ap Err (gives ∙ is)))
+
+-- no words have a first
+no_first : (word : List ℕ) (more : List (List ℕ)) → [] ≡ word ∷ more → ⊥
+no_first word more is = absurd cc
 
 -- no words ask for no mode
 pub none_asked : (asked : Mode) → AskFor [] asked → ⊥

@@ -1,9 +1,9 @@
 -- How a run ends whose output goes through a buffer.
 use Rattle.std.proofs.Common.{◌≡◌, ◌⊎◌, ℕ, List, Option, Some, None, Result, Ok, Err, IsErrAnd, IfErr, inl, inr, ap, sym, refl, subst, ◌∙◌}
 use Rattle.std.specs.Io.KnownBytes.{Keeps}
-use Rattle.agc_program.specs.declared.fault.ProgramFault.{ProgramFault}
-use Rattle.agc_program.specs.declared.fault.ProgramFault.TheVariants as fault
-use Rattle.agc_program.specs.Inputs.{CanEnd, EndsBy}
+use Rattle.agc.specs.declared.fault.ProgramFault.{ProgramFault}
+use Rattle.agc.specs.declared.fault.ProgramFault.TheVariants as fault
+use Rattle.agc.specs.Inputs.{CanEnd, EndsBy}
 use Rattle.agc.specs.declared.mode.Mode.{Mode}
 use Rattle.agc.specs.Program.{EndsFor, RunsText, RunsThrough}
 

@@ -14,9 +14,9 @@ use Rattle.agc_session.specs.declared.run_fault.RunFault.{RunFault}
 use Rattle.agc_session.specs.Runs.{bench_machine, bench_requests, script_machine}
 use Rattle.agc_session.specs.Session.{WritesSession}
 use Rattle.agc_bench.specs.Threads.{WritesRun}
-use Rattle.agc_program.specs.declared.fault.ProgramFault.{ProgramFault}
-use Rattle.agc_program.specs.declared.fault.ProgramFault.TheVariants as fault
-use Rattle.agc_program.specs.Inputs.{CanEnd, EndsBy, IsDocument}
+use Rattle.agc.specs.declared.fault.ProgramFault.{ProgramFault}
+use Rattle.agc.specs.declared.fault.ProgramFault.TheVariants as fault
+use Rattle.agc.specs.Inputs.{CanEnd, EndsBy, IsDocument}
 use Rattle.agc.specs.declared.mode.Mode.{Mode}
 use Rattle.agc.specs.declared.mode.Mode.TheVariants as mode
 use Rattle.agc.specs.Modes.{AskFor}

@@ -3,13 +3,14 @@ ghost use Rattle.std.specs.Prelude.{◌≡◌, ◌⊎◌, Err, IfErr, IfOk, IfSo
 ghost use Rattle.std.specs.Prelude.{map};
 ghost use Rattle.std.specs.String.{string_bytes};
 ghost use Rattle.clap.specs.Words.{app_of, subcommand_name_of};
-ghost use Rattle.agc_program.specs.declared.fault.ProgramFault.TheVariants.{NoMemory, Words};
+ghost use Rattle.agc.specs.declared.fault.ProgramFault.TheVariants.{NoMemory, Words};
 ghost use Rattle.agc.specs.declared.mode.Mode.{Mode};
 ghost use Rattle.agc.specs.declared.mode.Mode.TheVariants.{Script, Serial, Threads};
 ghost use Rattle.agc.specs.Modes.{AskFor, mode_name};
 ghost use Rattle.agc.specs.Steps.{mode_app};
 
-use agc_program::{ProgramFault, only_word};
+use crate::command::only_word;
+use crate::fault::ProgramFault;
 use clap::{ArgMatches, Command};
 use std::alloc::{AllocError, Global};
 

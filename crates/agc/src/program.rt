@@ -3,13 +3,15 @@ ghost use Rattle.agc.specs.declared.mode.Mode.TheVariants.{Script, Serial, Threa
 ghost use Rattle.std.specs.Io.Buffered.{writer_buffer, writer_contents};
 ghost use Rattle.std.specs.Prelude.{◌≡◌, [], OnOk, map};
 ghost use Rattle.std.specs.String.{string_bytes};
-ghost use Rattle.agc_program.specs.Inputs.{EndsBy};
+ghost use Rattle.agc.specs.Inputs.{EndsBy};
 ghost use Rattle.agc.specs.Program.{EndsFor, IsEnd, RunsText, RunsThrough};
 
+use crate::command::given_words;
+use crate::fault::ProgramFault;
 use crate::mode::{Mode, mode_of};
+use crate::output::{buffered_output, flush_output};
 use agc_bench::{OpenGate, threads};
 use agc_document::read_bench;
-use agc_program::{ProgramFault, buffered_output, flush_output, given_words};
 use agc_session::{run_script, serial};
 use agc_text::{read_all, read_script};
 use std::alloc::Global;

@@ -6,8 +6,8 @@ use Rattle.agc_text.specs.Faults.{RefusesInput}
 use Rattle.agc_text.specs.Input.{ReadsAll}
 use Rattle.agc_document.specs.Benches.{Benched, IsBench, bench_texts}
 use Rattle.agc_document.specs.Faults.{HasTexts}
-use Rattle.agc_program.specs.declared.fault.ProgramFault.{ProgramFault}
-use Rattle.agc_program.specs.declared.fault.ProgramFault.TheVariants as fault
+use Rattle.agc.specs.declared.fault.ProgramFault.{ProgramFault}
+use Rattle.agc.specs.declared.fault.ProgramFault.TheVariants as fault
 
 -- the text is the document of a bench
 abbrev pub IsDocument : List ℕ → Benched → Type 0

@@ -2,7 +2,7 @@
 ghost use Rattle.std.specs.Prelude.{◌≡◌, [], IfErr, IfOk, OnOk};
 ghost use Rattle.std.specs.Io.Buffered.{writer_buffer, writer_contents};
 ghost use Rattle.std.specs.Io.KnownBytes.{Keeps};
-ghost use Rattle.agc_program.specs.declared.fault.ProgramFault.TheVariants.{NoMemory, Output};
+ghost use Rattle.agc.specs.declared.fault.ProgramFault.TheVariants.{NoMemory, Output};
 
 use crate::fault::ProgramFault;
 use std::io;

@@ -1,7 +1,7 @@
 //! The words of the command line.
 ghost use Rattle.std.specs.Prelude.{◌≡◌, ◌⊎◌, IfErr, IfOk, None, Some, length};
 ghost use Rattle.clap.specs.Matches.{subcommand_name_of};
-ghost use Rattle.agc_program.specs.declared.fault.ProgramFault.TheVariants.{NoMemory, Words};
+ghost use Rattle.agc.specs.declared.fault.ProgramFault.TheVariants.{NoMemory, Words};
 
 use crate::fault::ProgramFault;
 use clap::ArgMatches;

@@ -1,7 +1,7 @@
 -- The exit statuses.
 use Rattle.std.specs.Prelude.{ℕ, Result, Ok, Err}
-use Rattle.agc_program.specs.declared.fault.ProgramFault.{ProgramFault}
-use Rattle.agc_program.specs.declared.fault.ProgramFault.TheVariants as fault
+use Rattle.agc.specs.declared.fault.ProgramFault.{ProgramFault}
+use Rattle.agc.specs.declared.fault.ProgramFault.TheVariants as fault
 use Rattle.agc_text.specs.declared.fault.ReadFault.TheVariants as read
 use Rattle.agc_text.specs.declared.fault.ScriptFault.TheVariants as script
 use Rattle.agc_document.specs.declared.fault.BenchFault.TheVariants as bench

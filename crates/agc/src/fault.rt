@@ -1,11 +1,11 @@
-//! Why a program ended.
+//! Why the program ended.
 ghost use Rattle.std.specs.Prelude.{◌≡◌, ◌≢◌};
 ghost use Rattle.clap.specs.Values.{kind_of};
 ghost use Rattle.clap.specs.declared.error.kind.ErrorKind.TheVariants.{OutOfMemory};
-ghost use Rattle.agc_program.specs.declared.fault.ProgramFault.TheVariants.{Words, NoMemory};
-ghost use Rattle.agc_program.specs.declared.fault.ProgramFault.TheVariants.{Read, Script, Bench};
-ghost use Rattle.agc_program.specs.declared.fault.ProgramFault.TheVariants.{Run};
-ghost use Rattle.agc_program.specs.Statuses.{status_of};
+ghost use Rattle.agc.specs.declared.fault.ProgramFault.TheVariants.{Words, NoMemory};
+ghost use Rattle.agc.specs.declared.fault.ProgramFault.TheVariants.{Read, Script, Bench};
+ghost use Rattle.agc.specs.declared.fault.ProgramFault.TheVariants.{Run};
+ghost use Rattle.agc.specs.Statuses.{status_of};
 
 use agc_document::BenchFault;
 use agc_session::RunFault;
@@ -13,7 +13,7 @@ use agc_text::{ReadFault, ScriptFault};
 use clap::error::ErrorKind;
 use std::alloc::AllocError;
 
-/// A reason why a program ended early.
+/// A reason why the program ended early.
 #[derive(Clone, Copy)]
 pub enum ProgramFault {
     /// The program doesn't take these words of the command line.

@@ -1,3 +1,0 @@
-pub mod Statuses
-pub mod Messages
-pub mod Inputs
