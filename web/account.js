@@ -81,12 +81,7 @@ export class Names {
   }
 }
 
-/**
- * Since when something is there: a link to its request, with the time of that.
- * @param {import("./run.js").Run} run
- * @param {number} since twice the row, and 1 more where an era began with it
- * @returns {Piece[]}
- */
+/** Since when something is there: a link to its request, with the time of that. @param {import("./run.js").Run} run @param {number} since twice the row, and 1 more where an era began with it @returns {Piece[]} */
 export function sinceOf(run, since) {
   const row = Math.floor(since / 2);
   const beginning = run.bench.power === undefined ? "the beginning" : "power-up";
@@ -196,8 +191,7 @@ function brokenPairs(power) {
 
 /** What comes of a run in which time passes: the deadlines that are missed, and its alarms. @param {import("./run.js").Run} run @param {number} count @param {Names} names */
 export function cameText(run, count, names) {
-  const missed = missedText(run, count, names);
-  const alarms = alarmsOf(run, count);
+  const [missed, alarms] = [missedText(run, count, names), alarmsOf(run, count)];
   const none = `No alarm ${run.isFilling ? "so far" : "comes"} in ${run.bench.seconds}\u00a0s${missed === "" && !run.isFilling && run.bench.job.some((it) => it.deadline !== undefined) ? ", and no deadline is missed" : ""}.`;
   return `${missed} ${alarms === "no alarm" ? none : `${alarms[0].toUpperCase()}${alarms.slice(1)}.`}`.trim();
 }

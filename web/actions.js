@@ -432,7 +432,7 @@ export const ACTIONS = {
   tour: (s, step) => ({ tour: step === 0 ? leftTour(s) : { ...s.tour, step }, clock: stopped(s) }),
   /** The tour from its beginning, or where it was left. */
   "tour-again"(s) {
-    const made = openedKept(s, "landing-1202");
+    const made = /** @type {any} */ (openedKept(s, "landing-1202"));
     const { left: step, tried } = s.tour;
     return { ...made, at: step < GUESSED ? 0 : made.run.alarms[0], tour: { step: step || 1, left: 0, tried: step === 0 ? [] : tried } };
   },

@@ -9,8 +9,7 @@ import { stolenParts } from "./stolen.js";
 import { octal, seconds, took } from "./words.js";
 
 /** Why a more urgent job runs at once where jobs take time, although none interrupts another; and who is first of equals. */
-export const TAKES_OVER = "A job that is asked for doesn't interrupt the running one. But where jobs take time, the running one asks for a change of jobs itself, each "
-  + "centisecond: there a more urgent one takes over.";
+export const TAKES_OVER = "A job that is asked for doesn't interrupt the running one. But where jobs take time, the running one asks for a change of jobs itself, each centisecond: there a more urgent one takes over.";
 export const EQUALS = "Of equal priority, the running job goes on; and then comes the one with the lowest number.";
 
 const COUNTS = ["No", "One", "Two", "Three", "Four", "Five", "Six", "Seven", "Eight"];
@@ -23,11 +22,7 @@ export function short(ticks) {
   return `${Number((ticks / 100).toFixed(ticks % 10 === 0 || ticks > 99 ? 1 : 2))} s`;
 }
 
-/**
- * How often jobs that begin at an address come, in ticks: the middle of the gaps between the last of them up
- * to a row; 0 where there are too few.
- * @param {import("./run.js").Run} run @param {number} at @param {number} row
- */
+/** How often jobs that begin at an address come, in ticks: the middle of the gaps between the last of them up to a row; 0 where there are too few. @param {import("./run.js").Run} run @param {number} at @param {number} row */
 export function periodOf({ lanes: { jobs }, columns }, at, row) {
   const born = /** @type {number[]} */ ([]);
   for (let id = jobs.count - 1; id > 0 && born.length < MOST_BEGUN; id--) {
@@ -38,10 +33,7 @@ export function periodOf({ lanes: { jobs }, columns }, at, row) {
   return gaps.length < 2 ? 0 : gaps[gaps.length >> 1];
 }
 
-/**
- * How many ticks jobs that begin at an address got from one row to another, without what was stolen.
- * @param {import("./run.js").Run} run @param {number} at @param {number} from @param {number} to
- */
+/** How many ticks jobs that begin at an address got from one row to another, without what was stolen. @param {import("./run.js").Run} run @param {number} at @param {number} from @param {number} to */
 function gotBy(run, at, from, to) {
   const { lanes, bench } = run;
   const [lane] = lanes.logs.set;
@@ -105,10 +97,7 @@ export function actionOf({ bench }, { step }) {
   return { last, isOne: (task?.action.length ?? 1) === 1, number: step.action, line: task?.action[step.action - 1] ?? "" };
 }
 
-/**
- * The last straw: which job asked for one more place, and how many are taken.
- * @param {import("./run.js").Run} run @param {import("./run.js").Shown} shown @param {import("./account.js").Names} names
- */
+/** The last straw: which job asked for one more place, and how many are taken. @param {import("./run.js").Run} run @param {import("./run.js").Shown} shown @param {import("./account.js").Names} names */
 export function strawOf(run, shown, names) {
   const [, at] = /^(?:novac|findvac) [0-7]+ ([0-7]+)/.exec(actionOf(run, shown)?.line ?? shown.line) ?? [];
   const [what, count] = shown.step?.number === 0o1201 ? ["VAC area (a longer block of memory)", 5] : ["core set", run.sets];
@@ -116,10 +105,7 @@ export function strawOf(run, shown, names) {
   return at === undefined ? "" : `one more job${name === undefined ? "" : `, ${name},`} asks for a ${what}, and all ${COUNTS[count].toLowerCase()} are taken.`;
 }
 
-/**
- * Why the first of the jobs is late that are at a row, and what would run it sooner; null where none is.
- * @param {import("./run.js").Run} run @param {import("./run.js").Shown} shown @param {import("./account.js").Names} names
- */
+/** Why the first of the jobs is late that are at a row, and what would run it sooner; null where none is. @param {import("./run.js").Run} run @param {import("./run.js").Shown} shown @param {import("./account.js").Names} names */
 export function lateOf(run, { row, scene: { sets }, jobsFrom }, names) {
   const [late] = lateAt(run, row);
   if (late === undefined) return null;
@@ -129,7 +115,7 @@ export function lateOf(run, { row, scene: { sets }, jobsFrom }, names) {
     .flatMap((it) => (gotBy(run, it, born, row) >= 1 ? [`${names.job(it) ?? octal(it, 5)} has had ${short(Math.round(gotBy(run, it, born, row)))} of computing`] : []));
   const got = Math.round(gotBy(run, at, born, row));
   const [first, own] = [sets[0], sets.find((it, k) => it !== null && jobsFrom[k] === at)].map((it) => it?.priority ?? 0);
-  const order = first <= own ? "" : ` First goes ${names.job(jobsFrom[0]) ?? "what runs"}, by its priority ${octal(first, 2)}: ${name} has ${octal(own, 2)}.`;
+  const order = first === own && jobsFrom[0] !== at ? ` Both have priority ${octal(first, 2)}. ${EQUALS}` : first <= own ? "" : ` First goes ${names.job(jobsFrom[0]) ?? "what runs"}, by its priority ${octal(first, 2)}: ${name} has ${octal(own, 2)}.`;
   return { name, at, text: `${name} was asked for at ${seconds(run.ticksAt(born))} and had to end by ${took(due, 100)}. `
     + `Since then ${[...others, `${name} ${got === 0 ? "none" : short(got)}`].join(", ")}.${order}${boundsOf(run.bench)?.hasOrder === false ? ` ${NO_ORDER}` : ""}` };
 }

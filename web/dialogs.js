@@ -29,7 +29,7 @@ function cardOf({ kind, name, text }, k, { length }) {
 
 /** @type {Record<string, (now: State) => Dialog>} */
 const DIALOGS = {
-  help: () => ({ heading: "Help", children: [make("p", {}, button("Show the tour again", () => act("tour-again"), { id: "tour-again" })), ...help()] }),
+  help: ({ tour }) => ({ heading: "Help", children: [make("p", {}, button(tour.left > 0 ? "Back to the tour" : "Show the tour again", () => act("tour-again"), { id: "tour-again" })), ...help()] }),
   examples({ kept }) {
     const listOf = (/** @type {string} */ topic, /** @type {typeof kept} */ all) => [make("h3", {}, topic), make("ul", { class: "choices", "aria-label": topic }, ...all.map(cardOf))];
     const [examples, exercises] = ["example", "exercise"].map((kind) => kept.filter((it) => it.kind === kind));

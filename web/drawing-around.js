@@ -118,7 +118,7 @@ export function drawLegend(sheet) {
   const lines = marks.filter((it) => it.kind === "path" && typeof it.told === "string" && it.fill === undefined);
   const entries = [
     ...(isThere(/^b[0-9]/) ? [{ text: "runs", fill: "b7" }] : []), ...(isThere(/^p[0-9]/) ? [{ text: "waits", fill: "p7" }] : []),
-    ...(isThere(/^h[0-9]/) ? [{ text: "sleeps", fill: "h7", hatch: "p7" }] : []),
+    ...(isThere(/^h[0-9]/) ? [{ text: "sleeps", fill: "h7", hatch: "p7" }] : []), ...(isThere(/^stolen$/) ? [{ text: "stolen time", fill: "stolen" }] : []),
     ...[["alarm", "alarm"], ["ink", "restart or fresh start"]].flatMap(([stroke, text]) =>
       lines.flatMap((it) => (it.kind === "path" && it.stroke === stroke ? { text, line: it } : [])).slice(0, 1)),
     ...[["ink", -1, "asked for"], ["ink", 1, "deadline"], ["alarm", 1, "deadline missed"]].flatMap(([fill, down, text]) =>

@@ -126,7 +126,7 @@ export class Sheet {
   label(texts, [left, right, top, high], look) {
     const { least = this.size } = this.view;
     if (high < least + 2) return false;
-    const [size, beside] = [[this.size, BESIDE], [least, BESIDE], [least, LEAST_BESIDE]].find((it) => high > it[0] + 1 && this.fitting(texts, right - left - it[1], look?.isBold, it[0])) ?? [least, 0];
+    const [size, beside] = [[this.size, BESIDE], [least, BESIDE], [least, LEAST_BESIDE]].find((it) => high > it[0] + 1 && this.fitting(texts, right - left - it[1], look?.isBold, it[0])) ?? [least, LEAST_BESIDE];
     const text = this.fitting(texts, right - left - beside, look?.isBold, size) ?? "";
     return beside === BESIDE ? this.text(text, left + BESIDE / 2, top + high / 2, { ...look, size })
       : this.text(text, (left + right) / 2, top + high / 2, { ...look, size, anchor: "middle" });

@@ -8,12 +8,7 @@ import { FORMS, REQUESTS, lineFault, nearest } from "./words.js";
 /** How many octal digits a part of a line has; decimal where it isn't named. */
 const DIGITS = { P: 2, A: 5, W: 5 };
 
-/**
- * The request that a line means, and what is said of it; the line itself where it is one, or where
- * nothing can be made of it.
- * @param {string} given
- * @returns {{ line: string, told: string }}
- */
+/** The request that a line means, and what is said of it; the line itself where it is one, or where nothing can be made of it. @param {string} given @returns {{ line: string, told: string }} */
 export function forgiven(given) {
   const words = given.trim().replace(/,$/, "").replace(/^"(.*)"$/, "$1").split(/[\s,]+/);
   const word = words[0].toLowerCase();

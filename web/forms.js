@@ -6,12 +6,7 @@ import { FORMS, MEANINGS, octal, visible } from "./words.js";
 /** The text in a field before it is filled. */
 const FIRST = { P: 0o20, A: "04000", W: "00005", D: "100", K: "1", G: "1", N: "1" };
 
-/**
- * Names and addresses that a bench has for jobs and tasks, as choices of a field.
- * @param {string} id
- * @param {import("./bench.js").Bench} bench
- * @param {import("../libagc/js/machine.js").Scene} scene
- */
+/** Names and addresses that a bench has for jobs and tasks, as choices of a field. @param {string} id @param {import("./bench.js").Bench} bench @param {import("../libagc/js/machine.js").Scene} scene */
 function addressChoices(id, bench, scene) {
   const rows = [...bench.task, ...bench.job].map((it) => [it.at, it.name ?? ""]);
   const jobs = scene.sets.filter((it) => it !== null)
@@ -67,11 +62,7 @@ export function makeCommon() {
   }));
 }
 
-/**
- * Events by name, and the next request of each worker of a bench, so that they take turns in an order of
- * one's own.
- * @param {import("./state.js").State} now @param {import("./state.js").State} before
- */
+/** Events by name, and the next request of each worker of a bench, so that they take turns in an order of one's own. @param {import("./state.js").State} now @param {import("./state.js").State} before */
 export function asked(now, before) {
   if (!differ(now, before, "run", "at")) return;
   const { run, at } = now;

@@ -10,10 +10,8 @@ import { counted, octal, seconds, took } from "./words.js";
 /** @typedef {import("./state.js").State} State @typedef {import("./jobs.js").JobRow} JobRow */
 
 /** What the table's times are, and when the load is safe that is calculated. */
-const TOLD = "Least, mean and greatest are measured in this run, from where a job is asked for to where it ends. At most is calculated: it holds if all jobs are asked for at once, "
-  + "and no alarm comes.";
-const SAFE = "is always safe: n (2^(1/n) - 1) of the time that isn't stolen, with n kinds of jobs, if the shorter period has the greater priority, and no deadline comes "
-  + "before the next job.";
+const TOLD = "Least, mean and greatest are measured in this run, from where a job is asked for to where it ends. At most is calculated: it holds if all jobs are asked for at once, and no alarm comes.";
+const SAFE = "is always safe: n (2^(1/n) - 1) of the time that isn't stolen, with n kinds of jobs, if the shorter period has the greater priority, and no deadline comes before the next job.";
 
 const percent = (/** @type {number} */ part) => `${Math.round(100 * part)} %`;
 
@@ -37,8 +35,9 @@ function lineOf(row, name, longest) {
   const costs = cost === null ? "–" : typeof cost === "number" ? short(cost) : `${short(cost.from)} to ${short(cost.to)}`;
   const late = deadline === null ? "–" : missed === 0 ? "0"
     : button(String(missed), () => act("late", missedRow), { title: "To the first one that is late" });
+  const heads = Array.from(by("jobs").parentElement.rows[0].cells, (/** @type {HTMLElement} */ it) => it.textContent);
   return make("tr", { title: told }, make("td", {}, ...name), ...[late, octal(priority, 2), period === null ? "–" : short(period), costs, deadline === null ? "–" : short(deadline),
-    part === null ? "–" : percent(part), percent(share), ...(ended === 0 ? ["–", "–", "–"] : [took(least), took(mean), took(most, 99)]), longest].map((it) => make("td", {}, it)));
+    part === null ? "–" : percent(part), percent(share), ...(ended === 0 ? ["–", "–", "–"] : [took(least), took(mean), took(most, 99)]), longest].map((it, k) => make("td", { "data-name": heads[k + 1] }, it)));
 }
 
 /** What the table's lines and its head say, of all of a run. @param {Pick<State, "run" | "count">} now */

@@ -13,12 +13,7 @@ import { counted, octal, took } from "./words.js";
 /** A line that lists a task once more, from the action of the task itself. */
 export const AGAIN = /^list ([0-9]+) ([0-7]{5}) ([0-7]{5})$/;
 
-/**
- * How often jobs at an address are asked for, in centiseconds: by the quickest task that lists itself, or event that has
- * a period; null where none does.
- * @param {import("./bench.js").Bench} bench
- * @param {string} at
- */
+/** How often jobs at an address are asked for, in centiseconds: by the quickest task that lists itself, or event that has a period; null where none does. @param {import("./bench.js").Bench} bench @param {string} at */
 export function periodOf({ task, event }, at) {
   const begins = (/** @type {string[]} */ lines) => lines.some((it) => /^(novac|findvac) /.test(it) && it.split(" ")[2] === at);
   const listed = task.filter((it) => begins(it.action)).flatMap((row) => row.action.flatMap((line) => {

@@ -8,7 +8,7 @@
  * @typedef {import("./account.js").Names} Names
  */
 import { accountOf } from "./account.js";
-import { becauseOf } from "./because.js";
+import { becauseOf, short } from "./because.js";
 import { summaryOf } from "./drawing-words.js";
 import { by, fill, make, withCode, withNumbers } from "./dom.js";
 import { paint } from "./drawing-pens.js";
@@ -18,10 +18,11 @@ import { cellsOf, styleOf } from "./list.js";
 import { isSaved } from "./saving.js";
 import { pictureSeen } from "./stage.js";
 import { isHidden, namesOf } from "./state.js";
-import { MEANINGS, PARTS, counted, formOf } from "./words.js";
+import { jobsAsked } from "./story.js";
+import { MEANINGS, PARTS, counted, formOf, visible } from "./words.js";
 
-/** How many ticks in a row in which nothing changes are one line, the most lines, and of how many alarms it is said why they came. */
-const [LEAST_QUIET, MOST_PRINTED, MOST_ALARMS] = [3, 5000, 6];
+/** How many requests are printed at most, and of how many alarms it is said why they came. */
+const [MOST_PRINTED, MOST_ALARMS] = [5000, 6];
 
 /** A line of the table of requests. @param {Shown} shown @param {Run} run @param {Names} names */
 function lineOf(shown, run, names) {
@@ -36,51 +37,21 @@ function isQuiet(run, row) {
   return run.lines[row] === "tick" && !isMore;
 }
 
-/** The rows in stretches: of many in which only time went by, or of the others. @param {Run} run @param {number} count */
-function* stretches(run, count) {
-  let from = 0;
-  for (let row = 1; row <= count + 1; row++) {
-    let to = row;
-    while (to <= count && isQuiet(run, to)) to++;
-    if (to - row < LEAST_QUIET && row <= count) continue;
-    if (from < row) yield { from, to: row - 1, isOne: false };
-    if (to > row) yield { from: row, to: to - 1, isOne: true };
-    [from, row] = [to, to];
-  }
-}
-
-/** The line of a stretch in which only time went by: the tables are those at its end. @param {Run} run @param {number} from @param {number} to @param {Names} names */
-function quietLine(run, from, to, names) {
-  const [first] = run.show(from, from);
-  const [last] = run.show(to, to);
-  const line = lineOf(last, run, names);
-  const count = `tick, ${to - from + 1} times`;
-  [`${from} to ${to}`, `${(first.ticks / 100).toFixed(2)} to ${(last.ticks / 100).toFixed(2)}`, count].forEach((it, k) => {
-    line.children[k].textContent = it;
-  });
-  return line;
-}
-
 /** The account of an alarm, as text. @param {Run} run @param {Shown} shown @param {Names} names */
 function accountText(run, shown, names) {
   return accountOf(run, shown, names).lines.map((line) => line.map((it) => (typeof it === "string" ? it : it.text)).join("")).join("\n");
 }
 
-/** Each request of a bench, with accounts below alarms; those in which only time goes by are one line. @param {Run} run @param {number} count @param {Names} names */
+/** The requests of a bench, without those in which only time goes by, and with accounts below alarms. @param {Run} run @param {number} count @param {Names} names */
 function requestsOf(run, count, names) {
-  const body = make("tbody");
-  let until = 0;
-  for (const { from, to, isOne } of stretches(run, count)) {
-    if (body.children.length >= MOST_PRINTED) break;
-    until = isOne ? to : Math.min(to, from + MOST_PRINTED - body.children.length - 1);
-    if (isOne) body.append(quietLine(run, from, to, names));
-    else for (const shown of run.show(from, until)) {
-      body.append(lineOf(shown, run, names));
-      if (shown.reply.includes("alarm")) body.append(make("tr", {}, make("td", { colSpan: 9 }, make("pre", {}, accountText(run, shown, names)))));
-    }
-  }
-  const more = until < count ? [make("p", {}, `The first ${until} of ${count} requests.`)] : [];
-  return [make("h2", {}, "Requests"), ...more, make("table", {}, by("rows").querySelector("thead").cloneNode(true), body)];
+  const rows = Array.from({ length: count + 1 }, (_, row) => row).filter((row) => !isQuiet(run, row));
+  const lines = rows.slice(0, MOST_PRINTED).flatMap((row) => {
+    const [shown] = run.show(row, row);
+    const told = shown.reply.includes("alarm") ? [make("tr", {}, make("td", { colSpan: 9 }, make("pre", {}, accountText(run, shown, names))))] : [];
+    return [lineOf(shown, run, names), ...told];
+  });
+  const more = rows.length > MOST_PRINTED ? [make("p", {}, `Those up to request ${rows[MOST_PRINTED - 1]} of ${count}.`)] : [];
+  return [make("h2", {}, "Requests"), ...more, make("table", {}, by("rows").querySelector("thead").cloneNode(true), make("tbody", {}, ...lines))];
 }
 
 /** The jobs of a scenario, and why each alarm came. @param {State} now @param {Names} names */
@@ -99,12 +70,25 @@ function reasonsOf(now, names) {
     ...(left > 0 ? [make("p", {}, `And ${counted(left, "more alarm")}.`)] : [])];
 }
 
-/** An exercise: its title, its question and its document, a line for each field, and what the requests do. @param {import("./run.js").Source} source */
-function questionOf({ question, document, exercise }) {
+/** What a document asks for, in words: its jobs, its requests by number, and the rest in a line each. @param {import("./bench.js").Bench} bench @param {string} document */
+function inWords(bench, document) {
+  const jobs = bench.seconds === undefined ? [] : jobsAsked(bench);
+  const [script] = /^script = \[\n[^\]]*\]/m.exec(document) ?? [];
+  const groups = (bench.power ?? []).flatMap((it, k, all) => (k % 2 === 0 ? [`Group ${1 + k / 2}: ${it} ${all[k + 1]}`] : []));
+  const tasks = jobs.length > 0 && bench.phase.length === 0 ? [] : bench.task.map(({ name, at, action }) => `Task ${at}${name === undefined ? "" : ` (${name})`}: ${action.join(", then ")}`);
+  const lines = [...(bench.seconds === undefined ? [] : [`The run lasts ${bench.seconds} s${bench.steal === 0 ? "" : `, of which ${bench.steal} % is stolen`}.`]), ...groups,
+    ...bench.worker.map(({ script: all }, k) => `Worker ${k + 1}: ${all.join(", ")}`), ...tasks,
+    ...(bench.phase.length === 0 ? [] : bench.event.map((it) => `At ${short(it.at)}: ${it.do.join(", ")}`)),
+    ...bench.phase.map((it) => `Group ${it.group} in phase ${it.phase}: after a restart ${[it.job, it.task].filter((one) => one !== undefined).join(" and ")}`)];
+  return make("div", { class: "asked" }, ...jobs, ...(script === undefined ? [] : [make("pre", {}, ...withNumbers(script))]), make("ul", {}, ...lines.map((it) => make("li", {}, visible(it)))));
+}
+
+/** An exercise: its title, its question and what it is about, a line for each field, and what the requests do. @param {Run} run */
+function questionOf({ given, source: { question, document, exercise } }) {
   const [title, ...lines] = question.split("\n");
   const fields = (EXERCISES[exercise]?.fields ?? []).map((it) => it.label);
   return [make("h1", {}, `Exercise ${exercise.replace(/\D/g, "")}. ${title}`), make("p", {}, ...withCode(lines.join(" "))),
-    make("pre", { class: "asked" }, ...withNumbers(document.trim())),
+    inWords(given, document),
     make("dl", { class: "answers" }, ...fields.flatMap((it) => [make("dt", {}, it), make("dd", {})])),
     make("h2", {}, "The requests"), make("table", { class: "legend" }, ...[...MEANINGS].map(([word, what]) =>
       make("tr", {}, make("td", {}, formOf(word)), make("td", {}, what)))),
@@ -115,7 +99,7 @@ function questionOf({ question, document, exercise }) {
 export function print(now) {
   const { run, count } = now;
   if (isHidden(now)) {
-    fill("printed", questionOf(run.source));
+    fill("printed", questionOf(run));
     return;
   }
   const names = namesOf(run);

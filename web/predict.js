@@ -17,11 +17,10 @@ const fieldsOf = ({ run }) => EXERCISES[run.source.exercise]?.fields ?? [];
 const answers = new Map();
 
 /** A field's answer: that of the exercise as it is asked, however a reader has changed it since. @param {State} now @param {Field} field */
-function answerOf({ kept, run }, field) {
+function answerOf(now, field) {
   const known = answers.get(field);
   if (known !== undefined) return known;
-  const text = kept.find((it) => it.name === run.source.exercise)?.text ?? "";
-  const answer = field.answer(whole(withoutQuestion(text)));
+  const answer = field.answer(asAsked(now));
   answers.set(field, answer);
   return answer;
 }
@@ -37,13 +36,17 @@ export function judged(now, given) {
   });
 }
 
-/** What is said of a try, if anything. @param {State} now @param {{ label: string, isRight: boolean }[]} all */
+/** The run of the exercise as it is asked, for what wrong answers mean. @param {State} now */
+const asAsked = ({ kept, run }) => whole(withoutQuestion(kept.find((it) => it.name === run.source.exercise)?.text ?? ""));
+
+/** What is said of a try, if anything. @param {State} now @param {{ label: string, given: string, isRight: boolean }[]} all */
 function hintOf(now, all) {
   const wrong = all.filter((it) => !it.isRight);
   if (all.length === 0) return [];
-  const told = wrong.length === 0 ? "Right so far. And the others?"
-    : `Not yet: ${wrong.map((it) => it.label).join(" ")} ${EXERCISES[now.run.source.exercise].hint}`;
-  return [make("p", { class: "hint-given", id: "hint-given", role: "status" }, told)];
+  const run = asAsked(now);
+  const means = wrong.map((it) => `${it.label} ${fieldsOf(now).find(({ label }) => label === it.label)?.means?.(run, it.given) ?? ""}`.trim());
+  const told = wrong.length === 0 ? ["Right so far. And the others?"] : [`Not yet: ${means[0]}`, ...means.slice(1), EXERCISES[now.run.source.exercise].hint];
+  return [make("div", { class: "hint-given", id: "hint-given", role: "status" }, ...told.map((it) => make("p", {}, it)))];
 }
 
 /** @param {Field} field @param {string} value @param {boolean} isWrong */

@@ -151,13 +151,7 @@ class Witness {
     this.lanes.lookAtTasks(2 * row, this.tasksIn(tasks, row, false), false);
   }
 
-  /**
-   * These tasks, each with its row: that of a task which waited before, or else this.
-   * @param {{ at: number, bank: number, left: number }[]} tasks
-   * @param {number} row
-   * @param {boolean} beginsEra
-   * @returns {HeldTask[]}
-   */
+  /** These tasks, each with its row: that of a task which waited before, or else this. @param {{ at: number, bank: number, left: number }[]} tasks @param {number} row @param {boolean} beginsEra @returns {HeldTask[]} */
   tasksIn(tasks, row, beginsEra) {
     const older = beginsEra ? [] : [...this.tasks];
     return tasks.map((it) => {
@@ -268,12 +262,7 @@ export class Run {
     return k >= 0 ? k : this.who.push(who) - 1;
   }
 
-  /**
-   * Asks a request, as the next row. A line that spells none is thrown, and nothing is changed.
-   * @param {string} line
-   * @param {string} who
-   * @returns {StepType | null} what came of it; nothing where it was refused
-   */
+  /** Asks a request, as the next row. A line that spells none is thrown, and nothing is changed. @param {string} line @param {string} who @returns {StepType | null} what came of it; nothing where it was refused */
   ask(line, who) {
     const before = this.head.running;
     const refused = this.refusal(line);
@@ -288,12 +277,7 @@ export class Run {
     return this.refusal("tick", most) === 0;
   }
 
-  /**
-   * Lets the clock ask at most so many requests, of which none may be refused: in one loop of the
-   * module. Returns how many these were: fewer, where its time is over.
-   * @param {number} most
-   * @param {(event: number | null) => string} whoOf
-   */
+  /** Lets the clock ask at most so many requests, of which none may be refused: in one loop of the module. Returns how many these were: fewer, where its time is over. @param {number} most @param {(event: number | null) => string} whoOf */
   askByClock(most, whoOf) {
     const { head } = this;
     /** @type {Map<number | null, number>} */

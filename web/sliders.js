@@ -220,28 +220,8 @@ export function whatIf(now, before) {
   }
 }
 
-/** The history of a number: `0 until 30.50 s, then 15`. @param {{ from: number, value: string }[]} rows */
-function historyOf(rows) {
-  const kept = rows.filter((it, k) => k === 0 || it.value !== rows[k - 1].value);
-  return kept.map(({ value }, k) => (k + 1 < kept.length ? `${value} until ${seconds(kept[k + 1].from)}` : value))
-    .join(", then ");
-}
-
 /** @param {import("./bench.js").Bench["steal"]} steal */
-function stealText(steal) {
-  if (typeof steal === "number") return String(steal);
-  const { once, beats } = partsOf(steal);
-  const rows = [];
-  let end = 0;
-  for (const it of once) {
-    if (it.from > end) rows.push({ from: end, value: "0" });
-    rows.push({ from: it.from, value: String(it.percent) });
-    end = it.to;
-  }
-  const told = beats.map((it) => `${it.percent} for ${seconds(it.to - it.from)} of each ${seconds(Number(it.every))}`);
-  if (beats.length > 0 && rows.length === 0) return told.join(", ");
-  return [...new Set(told), historyOf(rows)].join(", else ");
-}
+const stealText = (steal) => (typeof steal === "number" ? `${steal} %` : `${mostOf(steal)} % at most${partsOf(steal).beats.length > 0 ? ", and its beats" : ""}`);
 
 /** @param {import("./bench.js").JobRow["cost"]} cost */
 function costText(cost) {
@@ -251,12 +231,9 @@ function costText(cost) {
 /** How a run differs from its document, in full; nothing where it doesn't. @param {Run} run */
 export function differencesOf(run) {
   const { bench, given } = run;
-  const found = [];
-  /** @type {(name: string, here: string, there: string, unit?: string) => void} */
-  const add = (name, here, there, unit = "") => {
-    if (here !== there) found.push(`${name} ${here}${unit} (document: ${there}${unit})`);
-  };
-  add("steal", stealText(bench.steal), stealText(given.steal), " %");
+  const found = /** @type {string[]} */ ([]);
+  const add = (/** @type {string} */ name, /** @type {string} */ here, /** @type {string} */ there) => found.push(...(here === there ? [] : [`${name} ${here} (document: ${there})`]));
+  add("steal", stealText(bench.steal), stealText(given.steal));
   given.job.forEach((it, k) => add(`${visible(it.name ?? it.at)} costs`, costText(bench.job[k].cost), costText(it.cost)));
   add("seed", String(bench.seed), String(given.seed));
   add("core sets", String(bench.sets ?? 7), String(given.sets ?? 7));

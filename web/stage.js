@@ -28,7 +28,7 @@ export function themeNow() {
 }
 
 /** How high all else is in the tour, for a projector, and on the page, where a letter is one high; and each line of the table of jobs. */
-const [TOUR_BESIDE, PROJECTOR_BESIDE, PAGE_BESIDE, JOB_LINE] = [31.2, 24.6, 33.8, 1.7];
+const [TOUR_BESIDE, PROJECTOR_BESIDE, PAGE_BESIDE, JOB_LINE] = [31.2, 24, 33.8, 1.7];
 
 /** What the tour's picture has, what its words need; and that of an exercise whose answer is hidden. */
 const [TOURED, ASKED] = [["alarms", "work", "sets", "axis", "budget", "notes"], ["alarms", "sets", "strips", "axis"]];
@@ -45,7 +45,7 @@ function sizes(now) {
   // (where little else is below it, it fills the window; and elsewhere it stands above the foot of a low one)
   const jobLines = run.bench.job.some((it) => it.deadline !== undefined) ? run.bench.job.length + 1.4 : 0;
   const [least, most, beside] = !(isToured || isProjected) || window.innerWidth < 54 * size ? [1.5, window.innerWidth < 54 * size ? 1.87 : 2.5, PAGE_BESIDE]
-    : isProjected ? [1.35, 3, PROJECTOR_BESIDE + JOB_LINE * jobLines] : [1.6, 3, TOUR_BESIDE];
+    : isProjected ? [1.3, 3, PROJECTOR_BESIDE + JOB_LINE * jobLines] : [1.6, 3, TOUR_BESIDE];
   // (with the run before it is as high as without)
   const [line, half] = before === null || isToured || isProjected ? [0, 0] : [1.4, before.run.sets / 2];
   const lanes = Math.max(least, Math.min(most, (window.innerHeight / size - beside - line) / (run.sets + 3.6 + half)));
@@ -87,9 +87,9 @@ export function chart(now, before) {
   else if (differ(now, before, "at")) drawAt(now);
 }
 
-/** @param {State} now */
-function paintNow(now) {
-  const sheet = pictureAs(now, { width: by("lanes-box").clientWidth, before: now.before, theme: themeNow(), ...sizes(now) });
+/** @param {State} now @param {ReturnType<typeof sizes>} size */
+function paintNow(now, size = sizes(now)) {
+  const sheet = pictureAs(now, { width: by("lanes-box").clientWidth, before: now.before, theme: themeNow(), ...size });
   const { scale: { from, to, isWhole }, top, bottom, marks } = sheet;
   const late = marks.filter(({ ends }) => ends !== undefined && ends > sheet.left);
   paint(by("lanes-chart"), { ...sheet, marks: marks.filter((it) => !late.includes(it)) });
@@ -103,6 +103,10 @@ function paintNow(now) {
   by("future").style.setProperty("--axis", `${bottom - top}px`);
   tellLanes(now, sheet);
   drawAt(now);
+  // (for a projector all is on one screen, if its lanes don't get too low for that)
+  const over = now.isProjected && window.innerWidth > 864 ? Math.max(...["player", "jobs-box"].map((it) => by(it).getBoundingClientRect().bottom)) + window.scrollY + 10 - window.innerHeight : 0;
+  const high = Math.max(size.text + 4, size.high - Math.ceil(over / (now.run.sets + 3.6)));
+  if (over > 0 && high < size.high) paintNow(now, { ...size, high });
 }
 
 /** What each lane holds, for those who hear the page. @param {State} now @param {Sheet} sheet */

@@ -244,11 +244,11 @@ export function account(now, before) {
 }
 
 /** The jobs of an exercise that come again and again, as a table; nothing where it has none. @param {import("./bench.js").Bench} bench */
-function jobsAsked(bench) {
+export function jobsAsked(bench) {
   const rows = bench.job.filter((it) => it.cost !== 1).map(({ name, at, cost, deadline }) => [name ?? at, ...[periodOf(bench, at), cost].map((it) => (typeof it === "number" ? short(it) : "–")),
-    octal(priorityOf(bench, at) ?? 0, 2), deadline === undefined ? "–" : short(deadline)]);
+    octal(priorityOf(bench, at) ?? 0, 2), deadline === undefined ? "–" : short(deadline), bench.task.some((it) => it.action.some((line) => line.startsWith("findvac") && line.includes(at))) ? "yes" : "–"]);
   const line = (/** @type {string} */ kind, /** @type {string[]} */ cells) => make("tr", {}, ...cells.map((it) => make(kind, {}, it)));
-  return rows.length === 0 ? [] : [make("table", { class: "jobs" }, make("thead", {}, line("th", ["job", "every", "needs", "priority", "deadline"])),
+  return rows.length === 0 ? [] : [make("table", { class: "jobs" }, make("thead", {}, line("th", ["job", "every", "needs", "priority", "deadline", "VAC area"])),
     make("tbody", {}, ...rows.map((it) => line("td", it.map(visible)))))];
 }
 

@@ -7,15 +7,15 @@
  * @typedef {{ name: string, min: number, max: number, value: number, unit: string, given: (value: number) => any }} SliderNumber
  */
 import { writeBench } from "./bench.js";
-import { paint, textWidth } from "./drawing-pens.js";
+import { paint } from "./drawing-pens.js";
 import { attribute, make, set } from "./dom.js";
 import { act, state } from "./state.js";
 import { themeNow } from "./stage.js";
 import { firstsOf, valuesOf } from "./sweep.js";
 import { octal, seconds, took, visible } from "./words.js";
 
-/** How high a strip is, how large its text, and how high what marks missed deadlines, where the page's text is 16 points. */
-const [HIGH, TEXT, LATE] = [60, 13, 5];
+/** How high a strip is, and what marks missed deadlines, where the page's text is 16 points. */
+const [HIGH, LATE] = [60, 5];
 
 /** How far the line is from the edges: a slider's knob is in the middle of its value. */
 const SIDE = 8;
@@ -80,7 +80,8 @@ class Strip {
     this.sets = 7;
     this.canvas = make("canvas", { class: "strip", role: "img", tabIndex: -1, "aria-label": `When the first alarm comes, over ${number.name}` });
     this.said = make("p", { class: "said" });
-    this.box = make("div", { class: "swept" }, this.canvas, this.said);
+    this.zones = make("p", { class: "said zones" });
+    this.box = make("div", { class: "swept" }, this.canvas, this.zones, this.said);
     this.canvas.addEventListener("click", (/** @type {MouseEvent} */ event) => {
       const value = this.valueAt(event.offsetX);
       if (value !== this.number.value) act("change", this.number.given(value), this.number.name);
@@ -124,7 +125,9 @@ class Strip {
     const size = parseFloat(getComputedStyle(document.documentElement).fontSize) / 16;
     paint(canvas, /** @type {any} */ ({ width, height: size * HIGH, theme: themeNow(), marks: marksOf({ firsts, isDone: swept.isDone, number }, width, size) }));
     set(this.said, `At ${this.told(number.value)}`);
-    attribute(canvas, "aria-label", `When the first alarm comes, over ${number.name}: ${toldOf({ firsts, isDone: swept.isDone, number }).join(", ")}. ${this.said.textContent}`);
+    const told = toldOf({ firsts, isDone: swept.isDone, number });
+    set(this.zones, `${told[0][0].toUpperCase()}${told.join("; ").slice(1)}${swept.isDone ? "." : ""}`);
+    attribute(canvas, "aria-label", `When the first alarm comes, over ${number.name}: ${told.join("; ")}. ${this.said.textContent}`);
     canvas.dataset.done = swept.isDone ? "yes" : "no";
   }
 }
@@ -142,18 +145,15 @@ function alarmText({ alarm }) {
 /** The values that are known. @param {Map<number, Firsts>} own */
 const valuesIn = (own) => [...own.keys()].sort((one, other) => one - other);
 
-/**
- * Up to which value no alarm comes, and for which a deadline is missed, of those that are known; nothing where none is.
- * @param {{ firsts: Map<number, Firsts>[], isDone: boolean, number: SliderNumber }} swept
- */
-function toldOf({ firsts: [own], isDone, number }) {
+/** Up to which value no alarm comes, and for which a deadline is missed, of those that are known; nothing where none is. @param {{ firsts: Map<number, Firsts>[], isDone: boolean, number: SliderNumber }} swept */
+export function toldOf({ firsts: [own], isDone, number }) {
   const values = valuesIn(own);
   const [first, from, to] = [values.findIndex((it) => own.get(it)?.alarm !== null), values.findIndex((it) => own.get(it)?.missed !== null),
     values.findIndex((it, k) => own.get(it)?.missed !== null && own.get(values[k + 1])?.missed === null)];
   const text = (/** @type {number} */ k) => valueText(number, values[k]);
-  const none = !isDone ? "computing \u2026" : first < 0 ? "no alarm with any value" : first === 0 ? "an alarm with each value" : `no alarm up to ${text(first - 1)}`;
-  const misses = !isDone ? "misses" : from > 0 ? `misses from ${text(from)}` : to < 0 ? "misses with each value" : `misses up to ${text(to)}`;
-  return from < 0 ? [none] : [none, misses];
+  const none = !isDone ? "computing \u2026" : first < 0 ? "no alarm with any value" : first === 0 ? "an alarm with each value" : `no alarm up to ${text(first - 1)} (shaded)`;
+  const misses = from > 0 ? `from ${text(from)}` : to < 0 ? "with each value" : `up to ${text(to)}`;
+  return from < 0 || !isDone ? [none] : [none, `a deadline is missed ${misses} (red below)`];
 }
 
 /** Where values lie of which something holds: from edge to edge, and which is the first. @param {number[]} values @param {number[]} edges @param {(value: number) => boolean} holds */
@@ -177,7 +177,7 @@ function zonesOf(values, edges, holds) {
  */
 export function marksOf(swept, width, size) {
   const { firsts, number: { min, max, value } } = swept;
-  const [high, text] = [size * HIGH, size * TEXT];
+  const high = size * HIGH;
   const xOf = (/** @type {number} */ it) => SIDE + ((it - min) / (max - min)) * (width - 2 * SIDE);
   const times = firsts.flatMap((it) => [...it.values()].flatMap(({ alarm }) => alarm?.time ?? []));
   const most = Math.max(1, ...times);
@@ -186,8 +186,8 @@ export function marksOf(swept, width, size) {
   const edges = [...sorted.map((it, k) => (k === 0 ? 0 : (xOf(sorted[k - 1]) + xOf(it)) / 2)), width];
   const late = zonesOf(sorted, edges, (it) => firsts[0].get(it)?.missed !== null);
   const free = zonesOf(sorted, edges, (it) => firsts[0].get(it)?.alarm === null);
-  const low = high - 3 - (late.length > 0 ? size * LATE + text : 0);
-  const yOf = (/** @type {number} */ time) => low - (time / most) * (low - 6 - text);
+  const low = high - 3 - (late.length > 0 ? size * LATE : 0);
+  const yOf = (/** @type {number} */ time) => low - (time / most) * (low - 6);
   /** @type {any[]} */
   const marks = [...free.map((it) => ({ kind: "rect", y: 0, height: high, fill: "work", ...it })), { kind: "rect", x: 0, y: high - 1, width, height: 1, fill: "line" },
     ...late.map((it) => ({ kind: "rect", y: high - size * LATE, height: size * LATE, fill: "alarm", ...it }))];
@@ -205,17 +205,6 @@ export function marksOf(swept, width, size) {
       else points.push([xOf(it), yOf(alarm.time)]);
     }
     end();
-  }
-  if (times.length > 0) marks.push({ kind: "text", x: width - 2, y: text, text: `latest alarm ${seconds(most)}`, size: text, fill: "soft", anchor: "end" });
-  const [none, misses] = toldOf(swept);
-  const last = free.at(-1);
-  if (last !== undefined) {
-    const isIn = textWidth(none, text) < last.width - 8;
-    marks.push({ kind: "text", x: isIn ? last.x + 4 : last.x + last.width + 34, y: isIn && late.length === 0 ? high - 6 : text, text: none, size: text, fill: "soft" });
-  }
-  if (late.length > 0) {
-    const x = Math.max(4, Math.min(late[0].x + 4, width - 4 - textWidth(misses, text)));
-    marks.push({ kind: "text", x, y: high - size * LATE - 4, text: misses, size: text, fill: "alarm" });
   }
   const here = firsts[0].get(value)?.alarm;
   if (here !== undefined) marks.push({ kind: "path", points: dot(xOf(value), here === null ? high / 3 : yOf(here.time)), fill: "act", stroke: "paper", width: 1.5 });

@@ -160,6 +160,8 @@ export function tables(now, before) {
   if (alarm === 0o1203 || isOther) assign(by("more"), { open: isAsked || alarm !== 0 });
   by("tables").classList.toggle("after", shown.isAfter === true);
   by("tables").classList.toggle("begins", shown.row === 0);
+  // (of a bench that is asked by hand the tables are what one looks at)
+  by("tables").classList.toggle("leads", now.run.bench.seconds === undefined && now.run.source.document === "");
   for (const id of ["sets", "tasks"]) by(id).classList.toggle("swept", shown.isAfter === true);
   draw("sets", scene.sets.map((_, k) => setBox(shown, k, names, colours)), differ(now, before, "run", "at"));
   draw("areas", scene.areas.map((_, k) => areaBox(shown, k, names, colours)));

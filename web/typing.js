@@ -8,13 +8,7 @@ import { FORMS, MEANINGS, PARTS, REQUESTS, formOf, lineFault, octal } from "./wo
 /** How many completions are offered. */
 const MOST_OFFERED = 8;
 
-/**
- * What a bench and a state have for a part of a line.
- * @param {string} part
- * @param {import("./bench.js").Bench} bench
- * @param {import("../libagc/js/machine.js").Scene} scene
- * @param {string} word
- */
+/** What a bench and a state have for a part of a line. @param {string} part @param {import("./bench.js").Bench} bench @param {import("../libagc/js/machine.js").Scene} scene @param {string} word */
 function textsFor(part, bench, scene, word) {
   if (part === "P") return ["10", "20", "30"];
   if (part === "D") return ["1", "100", "200"];

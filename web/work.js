@@ -59,12 +59,7 @@ export function countsOf(run, count) {
   return found;
 }
 
-/**
- * How many of these came up to a time, each shared out over the time until the next one: so that a
- * job asked for every two seconds counts evenly.
- * @param {number[]} times
- * @param {number} time
- */
+/** How many of these came up to a time, each shared out over the time until the next one: so that a job asked for every two seconds counts evenly. @param {number[]} times @param {number} time */
 function cameUpTo(times, time) {
   const last = lastUpTo(times, times.length, time);
   if (last < 0) return 0;
@@ -79,11 +74,7 @@ function meanStolen(steal, from, to) {
     sum + it.percent * Math.max(0, Math.min(to, it.to) - Math.max(from, it.from)), 0) / (to - from);
 }
 
-/**
- * The part of a run of which its budget is: up to the alarm, where just one is in it, since the restart asks for more.
- * @param {Run} run
- * @param {{ from: number, to: number }} seen in ticks
- */
+/** The part of a run of which its budget is: up to the alarm, where just one is in it, since the restart asks for more. @param {Run} run @param {{ from: number, to: number }} seen in ticks */
 export function partAsked(run, { from, to }) {
   const inside = run.alarms.map((row) => run.ticksAt(row)).filter((it) => from < it && it <= to);
   return inside.length === 1 ? { from, to: inside[0], isCut: true } : { from, to, isCut: false };

@@ -2,8 +2,9 @@
 // documents have it. The times of the landing are those of docs/LANDING.md, and those of Apollo 11 of docs/teaching/history.md.
 import assert from "node:assert/strict";
 import { test } from "node:test";
-import { orderOf } from "../../web/account.js";
+import { cameText, orderOf } from "../../web/account.js";
 import { lateOf } from "../../web/because.js";
+import { scenarioOf } from "../../web/build.js";
 import { summaryOf } from "../../web/drawing-words.js";
 import { fillOn } from "../../web/clock.js";
 import { jobsOf, missedIn } from "../../web/jobs.js";
@@ -124,7 +125,7 @@ test("a slider runs the document with another number", () => {
   assert.deepEqual([keys.outcome.split(";")[0], keys.act("undo").now.at], ["no alarm", 3128]);
   const beats = new Page("seconds = 2\nsteal = [{ from = 10, to = 12, percent = 100, every = 50 }, { from = 0, to = 360000, percent = 15 }]\n");
   assert.equal(beats.slide("Stolen time", 20).differs, "This run differs from its document: "
-    + "steal 100 for 0.02 s of each 0.50 s, else 20 % (document: 100 for 0.02 s of each 0.50 s, else 15 %).");
+    + "steal 20 % at most, and its beats (document: 15 % at most, and its beats).");
 });
 
 /** Half of the time is stolen; a job takes 0.2 seconds, and at 1.5 s another the rest. */
@@ -201,6 +202,7 @@ test("why a job is late is told, and what would run it sooner", () => {
   page.act(.../** @type {[string]} */ (given));
   assert.deepEqual([missedIn(run, count), missedIn(page.now.run, page.now.count), page.differs], [10, 0, "This run differs from its document: steering priority 37 (document: 10)."]);
   assert.deepEqual(page.act("last").tries, []);
+  assert.equal(page.account.length > 0 && cameText(page.now.run, page.now.count, namesOf(page.now.run)), "No alarm comes in 20\u00a0s, and no deadline is missed.");
 });
 
 test("the tour goes on by itself, and never back", () => {
@@ -213,6 +215,28 @@ test("the tour goes on by itself, and never back", () => {
   assert.deepEqual(page.now.tour.tried.map(triedText), ["With an eighth core set: alarm 1201 at 38.01 s: all five VAC areas, which some jobs need for larger work, are taken.",
     ...["Without stolen time", "Without the display", "With a guidance of 1.4 s"].map((it) => `${it}: no alarm in 600\u00a0s.`)]);
   assert.equal(step("kept", "landing"), 0);
+});
+
+test("the tour waits while something else is open, and keeps its guesses", () => {
+  const page = new Page("#landing").act("tour-again").act("run").act("alarm-next").act("guess", "set");
+  const told = () => [page.now.tour.step, page.now.tour.left, page.now.tour.tried.map((/** @type {any} */ it) => it.name)];
+  assert.deepEqual([page.act("new").tries, told()], [["Back to the tour"], [0, 4, ["set"]]]);
+  assert.deepEqual([page.act("tour-again").now.run.isAlarm(page.now.at), told()], [true, [4, 0, ["set"]]]);
+  // (who skips it guesses on at the alarm)
+  assert.deepEqual([page.act("tour", 0).tries, told()], [["After the restart", "No stolen time", "No display", "A shorter guidance"], [0, 4, ["set"]]]);
+  assert.deepEqual([page.act("guess", "radar").tries, page.now.tour.step, page.differs], [["No display", "A shorter guidance"], 0, "This run differs from its document: steal 0 % (document: 15 %)."]);
+  assert.deepEqual([page.act("tour-again").act("tour", 5).act("tour", 0).act("tour-again").now.tour], [{ step: 1, left: 0, tried: [] }]);
+});
+
+/** By hand: of each two jobs a the first waits 0.7 s for b, and ends after 1.3 s; the second ends after 0.9 s. */
+test("a run without an alarm tells which deadlines it misses", () => {
+  const page = new Page(scenarioOf([{ name: "a", every: 100, needs: 60, priority: 8, deadline: 100, hasArea: false }, { name: "b", every: 200, needs: 70, priority: 16, hasArea: false }]));
+  fillOn(page.now.run, Infinity);
+  page.act("filled", page.now.run);
+  const story = "30 deadlines are missed, the first one at 1.01 s, by a. No alarm comes in 60\u00a0s.";
+  assert.deepEqual([page.account[1], page.tries], [story, ["To the first deadline missed"]]);
+  page.act("last");
+  assert.deepEqual([cameText(page.now.run, page.now.count, namesOf(page.now.run)), page.tries], [story, ["To the first deadline missed"]]);
 });
 
 /** The rows of history.md: the alarm, its minute and second, and the seconds since ignition at 102:33:05, flown and here. */

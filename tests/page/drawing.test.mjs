@@ -14,7 +14,7 @@ import { hitAt } from "../../web/drawing-words.js";
 import { budgetOf, countsOf, partAsked } from "../../web/work.js";
 import { drawn, moduleBytes } from "../../web/picture.mjs";
 import { Run } from "../../web/run.js";
-import { marksOf } from "../../web/strips.js";
+import { marksOf, toldOf } from "../../web/strips.js";
 import { faultsOf } from "./marks.mjs";
 
 await start(await moduleBytes());
@@ -217,7 +217,8 @@ test("a strip marks what comes of each value", () => {
   const firsts = [100, 90].map((time) => new Map(Array.from({ length: 11 }, (_, k) => [k, first(k, time)])));
   const number = { name: "it", own: "%", min: 0, max: 10, value: 9, unit: "%", what: "", given: () => ({}) };
   const marks = marksOf({ firsts, isDone: true, number }, 116, 1);
-  expect("texts", marks.flatMap((it) => (it.kind === "text" ? [it.text] : [])), ["latest alarm 1.00 s", "no alarm up to 4 %", "misses from 8 %"]);
+  expect("no text is in it, which could meet a curve", marks.filter((it) => it.kind === "text").length, 0);
+  expect("what is said below it", toldOf({ firsts, isDone: true, number }), ["no alarm up to 4 % (shaded)", "a deadline is missed from 8 % (red below)"]);
   // (a value is 10 points wide, from 8 on; what holds of one holds halfway to the next)
   expect("where none comes, and where one misses", marks.flatMap((it) => (it.kind === "rect" && it.fill !== "line" ? [[it.fill, it.x, it.x + it.width]] : [])), [["work", 0, 53], ["alarm", 83, 116]]);
   expect("the curves", marks.flatMap((it) => (it.kind === "path" && it.fill === undefined ? [[it.stroke, it.width, it.isDashed ?? false]] : [])), [["curve", 1, true], ["alarm", 2, false]]);

@@ -149,7 +149,7 @@ test("differences are told", () => {
   expect("a cost", other({ job: [{ ...bench.job[0], cost: 37 }] }), `${told}WORK costs 0.37 s (document: 0.10 s).`);
   expect("a deadline", other({ job: [{ ...bench.job[0], deadline: 70 }] }), `${told}WORK deadline 0.70 s (document: 0.50 s).`);
   expect("all that differs", other({ steal: [{ from: 100, to: 200, percent: 30 }], event: bench.event.slice(0, 1) }),
-    `${told}steal 0 until 1.00 s, then 30 % (document: 0 %); without B.`);
+    `${told}steal 30 % at most (document: 0 %); without B.`);
 });
 
 /** A part that is seen is within the run, and has twenty ticks at least. */

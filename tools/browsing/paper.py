@@ -14,8 +14,8 @@ TICKS = f"# Eight jobs, and time.\nscript = {json.dumps(['novac 20 02000 00005',
 
 def paper(browser, folder):
     """On paper a scenario has its chart, its jobs and why each alarm came, on two pages; a bench each row but those in which
-    only time goes by, which are one line, the account of each alarm, and its plan; an exercise its question, a line for each
-    answer and what the requests do, on one page; and nothing has a control."""
+    only time goes by, the account of each alarm, and its plan; an exercise its question, what it is about in words, a line for
+    each answer and what the requests do, on one page; and nothing has a control."""
     trial = Trial("paper")
     path = save(folder, "paper", page_of(""))
     try_run(browser, trial, save(folder, "timed", page_of(TIGHT)))
@@ -71,23 +71,25 @@ def try_run(browser, trial, path):
 
 
 def try_rows(browser, trial, path):
-    """Rows in which only time goes by are one line, and an alarm has its account."""
+    """Rows in which only time goes by aren't printed, and an alarm has its account."""
     browser.show(path)
     on_paper(browser, trial, "a bench")
     rows = browser.value("Array.from(document.querySelectorAll('#printed tbody tr'), (it) => Array.from(it.children, (one) => one.textContent))")
-    trial.same("an account, and rows of several ticks", ([len(cells) for cells in rows].count(1), rows[2][0], rows[-1][0]), (1, "2 to 5", "37 to 40"))
+    trial.same("an account, and rows without ticks", ([len(cells) for cells in rows].count(1), [cells[0] for cells in rows if len(cells) > 1]),
+               (1, ["0", *map(str, range(1, 37, 5))]))
     trial.expect("the plan of a bench", "novac 20 02000 00005" in texts(browser, "#printed .plan"))
     browser.scheme("light")
 
 
 def try_question(browser, trial, path):
     """An exercise whose answer is hidden is printed as it is asked, on one page, and afterwards with what came of it."""
-    for number in range(1, 13):
+    for number in range(1, 16):
         browser.show(path, f"#exercise-{number}")
         wanted = texts(browser, "#prediction label")
         pages, parts = printed(browser)
         told = browser.text("printed")
-        trial.expect(f"exercise {number} is printed on {pages} pages, with {parts}", pages == 1 and parts == "h1 p pre dl h2 table p")
+        trial.expect(f"exercise {number} is printed on {pages} pages, with {parts}", pages == 1 and parts == "h1 p div dl h2 table p")
+        trial.expect(f"exercise {number} has lines of a document: {told}", not re.search(r"\[\[(task|job|event)\]\]\n| = [\"\[{]", told))
         trial.expect(f"exercise {number} on paper: {told}", browser.text("title") in told and not re.search("alarm [0-9]|1201 at|1202 at", told)
                      and "findvac P A Westablish a job with a VAC area" in told)
         asked = browser.value("Array.from(document.querySelectorAll('#printed dt'), (it) => it.textContent)")
@@ -154,12 +156,12 @@ def print_long(browser, trial):
     many = json.dumps(3000 * ["phase 1 1", "phase 1 2"])
     refused = json.dumps(["tick"] * 6)
     ticks = json.dumps(["tick", "tick", "change", "tick", "tick", "tick"])
-    for text, count, wanted in ((f"# Two ticks, and three.\nscript = {ticks}\n", 5, "4 to 60.03 to 0.05tick, 3 times"), (f"# Phases, many times.\nscript = {many}\nlimit = 6000\n", 5000, "The first 4999 of 6000 requests."),
-                                (f"# Six ticks.\nscript = {refused}\nlimit = 2\n", 7, "Over 6 requests")):
+    for text, count, wanted in ((f"# Two ticks, and three.\nscript = {ticks}\n", 2, "30.02change"), (f"# Phases, many times.\nscript = {many}\nlimit = 6000\n", 5000, "Those up to request 4999 of 6000."),
+                                (f"# Six ticks.\nscript = {refused}\nlimit = 2\n", 5, "Over 6 requests")):
         open_text(browser, text)
         browser.value("window.dispatchEvent(new Event('beforeprint'))")
         told = browser.value("document.getElementById('printed').textContent.slice(0, 600)")
         found = browser.value("document.querySelectorAll('#printed tbody tr').length")
         trial.expect(f"{found} lines of {told}", found == count and wanted in told)
         trial.same("the title", browser.value("document.querySelector('#printed h1').textContent"), text[2:text.index("\n")])
-        trial.expect("no rows are refused", ("refused log full" in browser.text("printed")) == (count == 7))
+        trial.expect("no rows are refused", ("refused log full" in browser.text("printed")) == (count == 5))

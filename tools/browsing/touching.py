@@ -112,7 +112,8 @@ def try_predictions(browser, trial):
     trial.expect(browser.text("which"), browser.text("which") == "Exercise 1 of 15")
     say("12", "1202")
     told = browser.text("hint-given"), texts(browser, "#verdict li"), browser.value("document.getElementById('show-answer') !== null")
-    trial.expect(f"a first try: {told}", told[0].startswith("Not yet: Which alarm? Each findvac takes") and told[1:] == ("", True))
+    trial.expect(f"a first try: {told}", told[0].startswith("Not yet: Which alarm? 1202 would mean that all core sets are taken") and told[0].count("here at most 6.Each findvac takes") == 1
+                 and "1201" not in told[0] and told[1:] == ("", True))
     marks = browser.value("Array.from(document.querySelectorAll('#prediction label'), (it) => it.querySelector('span')?.textContent)")
     trial.expect(f"the marks of a first try: {marks}", marks == ["\u2713 right", "not yet"])
     say("12", "1203")

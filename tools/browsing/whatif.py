@@ -41,7 +41,7 @@ PRESS = """(() => { const it = document.querySelectorAll('.strip')[K], box = it.
 def try_strips(browser, trial):
     """Under stolen time is when the first alarm comes, as docs/LANDING.md has it, and under another slider if it is asked
     for; a click sets the slider. An exercise's strip doesn't answer it."""
-    said = "document.querySelectorAll('.swept .said')"
+    said = "document.querySelectorAll('.swept .said:not(.zones)')"
     done = "document.querySelectorAll('.strip')[{0}]?.dataset.done === 'yes' && !" + said + "[{0}].textContent.includes('not computed')"
     trial.expect("the strip isn't computed", browser.wait(done.format(0)))
     # (the times of docs/LANDING.md)
@@ -50,7 +50,7 @@ def try_strips(browser, trial):
         browser.wait(done.format(0))
         trial.same(f"a click at {part}", (browser.value(f"{said}[0].textContent"), browser.value("document.querySelector('#sliders input').value")), (wanted, str(part)))
     named = browser.value("document.querySelector('.strip').ariaLabel")
-    trial.expect(f"the strip's name: {named}", named.startswith("When the first alarm comes, over Stolen time: no alarm up to 3 %. At 15 %: 1202 at"))
+    trial.expect(f"the strip's name: {named}", named.startswith("When the first alarm comes, over Stolen time: no alarm up to 3 % (shaded). At 15 %: 1202 at"))
     browser.value("document.querySelectorAll('.over')[1].click()")
     browser.wait(said + "[1].textContent.includes('with 8 sets')")
     trial.same("the cost", browser.value(f"{said}[1].textContent"), "At 1.70 s: 1202 at 30.50 s; with 8 sets 1201 at 38.01 s")
@@ -88,7 +88,7 @@ def try_jobs(browser, trial):
     browser.wait("Array.from(document.querySelectorAll('.strip')).at(-1).dataset.done === 'yes'")
     # (from the fast job's priority on, 24, the fast ones are those that pile up)
     named = browser.value("Array.from(document.querySelectorAll('.strip')).at(-1).ariaLabel")
-    trial.same("the slow job's priority", named, "When the first alarm comes, over slow priority: no alarm up to 27, misses with each value. "
+    trial.same("the slow job's priority", named, "When the first alarm comes, over slow priority: no alarm up to 27 (shaded); a deadline is missed with each value (red below). "
                "At 10: first missed deadline 1.51 s (slow); no alarm")
     exercise(browser, 10)
     trial.expect("an exercise's jobs are told", browser.value("document.getElementById('jobs-box').hidden"))
