@@ -31,7 +31,6 @@ fn alarm_lack(alarm: u32) -> u32
     }
 }
 
-/// Records an alarm, if it is one.
 fn note(alarm: u32, e: &mut Erasable)
     requires { IsLawfulTable e.old }
     ensures { Becomes (base_after alarm (base_of e.old)) e.old e.new }

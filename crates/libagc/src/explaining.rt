@@ -23,22 +23,6 @@ pub struct AgcFinding {
     pub wanted: u32,
 }
 
-impl AgcFinding {
-    /// Nothing but a code.
-    fn only(code: u32) -> AgcFinding
-        ensures { result ≡ only_code code }
-    {
-        AgcFinding {
-            code,
-            rule: 0,
-            place: 0,
-            found: 0,
-            wanted: 0,
-        }
-    }
-}
-
-/// The report on a broken rule.
 fn finding_to_c(words: &[u16; 144], sets: usize, code: u32) -> AgcFinding
     requires { sets ≤ 8 }
     ensures code { result.code ≡ code }
@@ -92,7 +76,13 @@ pub extern "C" fn agc_explain(words: &[u16; 144], sets: u32) -> AgcFinding
 {
     let code = array_code(words, sets);
     if code < 2 {
-        AgcFinding::only(code)
+        AgcFinding {
+            code,
+            rule: 0,
+            place: 0,
+            found: 0,
+            wanted: 0,
+        }
     } else {
         finding_to_c(words, sets as usize, code)
     }

@@ -77,7 +77,6 @@ fn action_numbers(action: &Action) -> AgcRequest
     }
 }
 
-/// The request that bytes spell.
 fn request_in(text: &[u8]) -> Option<Request>
     ensures found { IfSome result (λ r. IsRequest r × (text.now ≡ line_of r)) }
     ensures only { (r : Request) → IsRequest r → text.now ≡ line_of r → result ≡ Some r }
@@ -88,7 +87,6 @@ fn request_in(text: &[u8]) -> Option<Request>
     }
 }
 
-/// The action that bytes spell.
 fn action_in(text: &[u8]) -> Option<Action>
     ensures found { IfSome result (λ a. IsAction a × (text.now ≡ action_line_of a)) }
     ensures only { (a : Action) → IsAction a → text.now ≡ action_line_of a → result ≡ Some a }

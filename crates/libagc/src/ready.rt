@@ -33,7 +33,6 @@ fn is_tidy_set(e: &Erasable, k: usize) -> bool
     pushloc == 0
 }
 
-/// Whether all sets are tidy.
 fn are_tidy_sets(e: &Erasable) -> bool
     requires { IsSized e.now }
     ensures yes { result ≡ true → cores.IsTidy e.now }

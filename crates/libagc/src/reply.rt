@@ -15,7 +15,6 @@ pub struct AgcReply {
     pub number: u32,
 }
 
-/// The word that FAILREG has for an alarm.
 fn alarm_code(alarm: Alarm) -> u32
     ensures { result ≡ alarm_code alarm }
 {

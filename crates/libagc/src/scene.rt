@@ -5,11 +5,11 @@ ghost use Rattle.agc_phase.specs.Image.{failreg_word};
 ghost use Rattle.agc_wait.specs.Table.{IsLawfulTable, waits_of};
 ghost use Rattle.libagc.specs.Codes.{Coded};
 ghost use Rattle.agc_image.specs.Images.{IsOpened, IsSets};
-ghost use Rattle.libagc.specs.Scenes.{job_to_c, no_job, owner_in, scene_to_c, set_to_c, sets_to_c};
+ghost use Rattle.libagc.specs.Scenes.{no_job, owner_in, scene_to_c, set_to_c, sets_to_c};
 ghost use Rattle.libagc.specs.Scenes.{task_in, work_at};
 
 use crate::fault::image_in;
-use agc_exec::{Seat, job_at, named_job, running};
+use agc_exec::{job_at, named_job, running};
 use agc_phase::{Phases, failreg, phases};
 use agc_wait::{Waiting, tasks_waiting};
 use agc_word::Erasable;
@@ -91,11 +91,16 @@ fn work_at(words: &[u16; 144], place: usize) -> [u16; 6]
     ]
 }
 
-fn job_to_c(words: &[u16; 144], set: usize, seat: Option<Seat>) -> AgcJob
-    requires { set ≤ 7 }
-    ensures { result ≡ job_to_c set words.now seat }
+fn set_to_c(words: &[u16; 144], sets: u32, image: &Erasable, set: usize) -> AgcJob
+    requires sets { IsSets sets }
+    requires opened { IsOpened sets words.now image.now }
+    requires set { set ≤ 7 }
+    ensures { result ≡ set_to_c sets words.now set }
 {
-    match seat {
+    if set >= sets as usize {
+        return no_job();
+    }
+    match job_at(image, set) {
         None => no_job(),
         Some(seat) => AgcJob {
             number: u32::from(seat.number),
@@ -106,19 +111,6 @@ fn job_to_c(words: &[u16; 144], set: usize, seat: Option<Seat>) -> AgcJob
             asleep: seat.asleep,
             work: work_at(words, set_place(set)),
         },
-    }
-}
-
-fn set_to_c(words: &[u16; 144], sets: u32, image: &Erasable, set: usize) -> AgcJob
-    requires sets { IsSets sets }
-    requires opened { IsOpened sets words.now image.now }
-    requires set { set ≤ 7 }
-    ensures { result ≡ set_to_c sets words.now set }
-{
-    if set < sets as usize {
-        job_to_c(words, set, job_at(image, set))
-    } else {
-        no_job()
     }
 }
 

@@ -25,12 +25,10 @@ pub struct AgcTotals {
     pub restarts: u64,
 }
 
-/// A job's number.
 fn job_of(number: u32) -> Option<JobNo> {
     JobNo::new(u8::try_from(number).ok()?)
 }
 
-/// An alarm, as FAILREG has it.
 fn alarm_of(number: u32) -> Option<Alarm> {
     match number {
         0o1201 => Some(Alarm::A1201),

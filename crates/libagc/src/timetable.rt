@@ -134,7 +134,6 @@ pub(crate) fn event_after(row: &AgcEvent, alarm: u32, time: u32) -> AgcEvent
     }
 }
 
-/// The request of numbers; a change of job if they are none.
 fn request_for(numbers: &AgcRequest) -> Request
     ensures { result ≡ request_for numbers.now }
 {
