@@ -1,7 +1,7 @@
 //! The differences between the outcomes of two documents.
 use crate::keys::put_keys;
-use crate::running::send_table;
-use crate::summary::{JobsSummary, RunSummary};
+use crate::lines::send_table;
+use crate::summary::{AddressSummary, RunSummary};
 use agc_session::RunFault;
 use agc_table::{Row, Table, TableForm, left, right};
 use agc_text::Field;
@@ -43,7 +43,7 @@ impl<'a> Part<'a> {
 
 /// The rows of both documents: of their totals, or of jobs that are called the same.
 #[derive(Clone, Copy)]
-struct Pair<'a> {
+struct RowPair<'a> {
     before: Option<&'a Row>,
     after: Option<&'a Row>,
 }
@@ -59,7 +59,7 @@ pub(crate) fn end_key(table: &mut Table) {
 }
 
 /// Adds the values of both documents at a place to a row, after the value's name.
-fn fill(table: &mut Table, pair: Pair<'_>, place: usize) {
+fn fill(table: &mut Table, pair: RowPair<'_>, place: usize) {
     end_key(table);
     let (before, after) = (right("before", "before", 10), right("after", "after", 10));
     table.row.copy(before, pair.before, place);
@@ -67,7 +67,7 @@ fn fill(table: &mut Table, pair: Pair<'_>, place: usize) {
 }
 
 /// Adds a row for each value that differs.
-fn put(table: &mut Table, mut part: Part<'_>, names: &Row, pair: Pair<'_>) {
+fn put(table: &mut Table, mut part: Part<'_>, names: &Row, pair: RowPair<'_>) {
     for place in 0..names.len() {
         if text_at(pair.before, place) != text_at(pair.after, place) {
             part.begin_row(table);
@@ -84,8 +84,8 @@ fn put(table: &mut Table, mut part: Part<'_>, names: &Row, pair: Pair<'_>) {
 
 /// The jobs that have the same name as those of another document: if several do, those at the same
 /// address, or else the first.
-fn called_as<'a>(all: &'a [JobsSummary], jobs: &JobsSummary) -> Option<&'a JobsSummary> {
-    let is_same = |other: &&JobsSummary| other.at == jobs.at && other.is_called_as(jobs);
+fn called_as<'a>(all: &'a [AddressSummary], jobs: &AddressSummary) -> Option<&'a AddressSummary> {
+    let is_same = |other: &&AddressSummary| other.at == jobs.at && other.is_called_as(jobs);
     match all.iter().find(is_same) {
         None => all.iter().find(|other| other.is_called_as(jobs)),
         found => found,
@@ -93,16 +93,16 @@ fn called_as<'a>(all: &'a [JobsSummary], jobs: &JobsSummary) -> Option<&'a JobsS
 }
 
 /// Adds what differs of jobs.
-fn put_jobs(table: &mut Table, jobs: &JobsSummary, pair: Pair<'_>) {
+fn put_jobs(table: &mut Table, jobs: &AddressSummary, pair: RowPair<'_>) {
     let name = jobs.name.as_ref();
     let name = name.map_or(Octal(jobs.at), |name| Text(name.as_str()));
     put(table, Part::new("job ", name), &jobs.row, pair);
 }
 
 /// Adds the jobs that differ, those of the first document first.
-fn put_all_jobs(table: &mut Table, before: &[JobsSummary], after: &[JobsSummary]) {
+fn put_all_jobs(table: &mut Table, before: &[AddressSummary], after: &[AddressSummary]) {
     for jobs in before {
-        let pair = Pair {
+        let pair = RowPair {
             before: Some(&jobs.row),
             after: called_as(after, jobs).map(|jobs| &jobs.row),
         };
@@ -110,7 +110,7 @@ fn put_all_jobs(table: &mut Table, before: &[JobsSummary], after: &[JobsSummary]
     }
     for jobs in after {
         if called_as(before, jobs).is_none() {
-            let pair = Pair {
+            let pair = RowPair {
                 before: None,
                 after: Some(&jobs.row),
             };
@@ -135,7 +135,7 @@ pub fn put_differences<W: Write>(
     writer: &mut W,
 ) -> Result<bool, RunFault> {
     let mut table = Table::new(alloc, form)?;
-    let totals = Pair {
+    let totals = RowPair {
         before: Some(&before.totals),
         after: Some(&after.totals),
     };

@@ -1,8 +1,8 @@
 //! The smallest value of a scenario's number that raises an alarm.
-use crate::run_statistics::RunPeaks;
 use crate::sweep::{Axis, SweepWriter, runs_of, values_of};
 use agc_scenario::Scenario;
 use agc_session::RunFault;
+use agc_stats::RunPeaks;
 use agc_table::TableForm;
 use agc_text::Field::Number;
 use std::alloc::Global;

@@ -1,8 +1,6 @@
 //! The table of a run's jobs.
-use crate::address_statistics::AddressStatistics;
-use crate::era_time::EraTime;
-use crate::job_statistics::JobStatistics;
 use agc_scenario::{TimedJob, Timing};
+use agc_stats::{AddressStatistics, EraTime, JobStatistics};
 use agc_table::{Row, Table, left, right, width_of};
 use agc_text::Field;
 use agc_text::Field::{Number, Octal, Seconds, Text};
@@ -20,7 +18,7 @@ fn seconds_up(hundredths: u64) -> Field<'static> {
 /// Means over the jobs of an address, in hundredths of a centisecond: how long they took, and how
 /// much of that they computed, waited and slept.
 #[derive(Clone, Copy)]
-struct Mean {
+struct MeanTimes {
     response: u64,
     computed: u64,
     waited: u64,
@@ -28,7 +26,7 @@ struct Mean {
 }
 
 /// The mean of an address's jobs that ended; None if none did.
-fn mean_of(row: &AddressStatistics) -> Option<Mean> {
+fn mean_of(row: &AddressStatistics) -> Option<MeanTimes> {
     let count = row.responses.len() as u64;
     if count == 0 {
         return None;
@@ -40,7 +38,7 @@ fn mean_of(row: &AddressStatistics) -> Option<Mean> {
     let waited = sum
         .saturating_sub(row.computed_to_end)
         .saturating_sub(row.slept_to_end);
-    Some(Mean {
+    Some(MeanTimes {
         response: sum / count,
         computed: row.computed_to_end / count,
         waited: waited / count,
@@ -131,18 +129,18 @@ fn name_width(statistics: &JobStatistics<'_>, timing: Option<&Timing>) -> usize 
 /// A table of the jobs of addresses: the width of the names, the time that the run is known to
 /// have taken, and whether deadlines are shown.
 #[derive(Clone, Copy)]
-struct Look {
+struct JobsTableLayout {
     width: usize,
     time: Option<u64>,
     has_deadline: bool,
 }
 
 /// Adds the cells of an address's jobs to a row.
-fn fill(row: &mut Row, look: Look, jobs: &AddressStatistics, name: Option<&str>) {
+fn fill(row: &mut Row, layout: JobsTableLayout, jobs: &AddressStatistics, name: Option<&str>) {
     let job = name.map_or(Octal(jobs.at), Text);
-    row.cell(left("job", "job", look.width), job);
-    fill_times(row, jobs, look.time);
-    if look.has_deadline {
+    row.cell(left("job", "job", layout.width), job);
+    fill_times(row, jobs, layout.time);
+    if layout.has_deadline {
         fill_deadline(row, jobs);
     }
 }
@@ -150,15 +148,15 @@ fn fill(row: &mut Row, look: Look, jobs: &AddressStatistics, name: Option<&str>)
 /// Adds the heading, and the row of each address.
 fn put_rows(table: &mut Table, statistics: &JobStatistics<'_>, timing: Option<&Timing>) {
     let has_deadline = statistics.rows.iter().any(|row| row.deadline.is_some());
-    let look = Look {
+    let layout = JobsTableLayout {
         width: name_width(statistics, timing),
         time: timing.map(|_timing| statistics.instant),
         has_deadline: has_deadline || !table.is_text(),
     };
-    fill(&mut table.row, look, &statistics.no_address(), None);
+    fill(&mut table.row, layout, &statistics.no_address(), None);
     table.end_heading();
     for row in statistics.rows.iter() {
-        fill(&mut table.row, look, row, name_at(timing, row.at));
+        fill(&mut table.row, layout, row, name_at(timing, row.at));
         table.end_row();
     }
 }

@@ -2,23 +2,14 @@
 //! differences between two documents, and the bench of a scenario.
 #![tactic(auto)]
 
-mod address_statistics;
-mod addresses;
 mod comparing;
-mod computed_by_job;
-mod era;
-mod era_time;
 mod eras_rows;
 mod finding;
-mod job_statistics;
 mod jobs;
 mod jobs_rows;
 mod keys;
-mod live_jobs;
-mod occupancy;
+mod lines;
 mod peaks;
-mod run_statistics;
-mod running;
 mod summary;
 mod sweep;
 mod writing;

@@ -1,18 +1,39 @@
 //! How full the tables were, era by era.
-use crate::era::Boundary;
-use crate::run_statistics::RunStatistics;
-use crate::running::{RunReport, run_to_end, send_table};
+use crate::eras_rows::fill_era;
+use crate::lines::send_table;
+use agc_plan::Request;
 use agc_run::{Run, Subject};
 use agc_session::RunFault;
+use agc_stats::{EndedEra, EraBoundary, RunObserver, RunStatistics, run_to_end};
 use agc_table::{Table, TableForm};
 use agc_text::Field::Number;
 use std::alloc::Global;
 use std::io::Write;
 
+/// A table of eras, each of which is written as soon as it has ended; and whether time passes by
+/// itself.
+#[derive(Drop)]
+struct EraLines<'a, W> {
+    has_time: bool,
+    table: &'a mut Table,
+    writer: &'a mut W,
+}
+
+impl<W: Write> RunObserver for EraLines<'_, W> {
+    fn note(&mut self, _request: &Request, ended: Option<EndedEra>) -> Result<(), RunFault> {
+        if let Some(era) = ended {
+            fill_era(&era, self.has_time, self.table);
+            self.table.end_row();
+        }
+        send_table(self.table, self.writer)
+    }
+}
+
 /// Adds the row of the last era and, unless it is for other programs, how many requests were
 /// refused.
 fn put_last(table: &mut Table, statistics: &RunStatistics, has_time: bool) {
-    statistics.row(Boundary::End).fill(0, has_time, table);
+    let last = statistics.present_era(EraBoundary::End, 0);
+    fill_era(&last, has_time, table);
     table.end_row();
     match statistics.refused {
         _ if !table.is_text() => {}
@@ -31,11 +52,15 @@ fn put_eras<W: Write>(
     table: &mut Table,
     writer: &mut W,
 ) -> Result<(), RunFault> {
-    RunStatistics::new(run.machine())
-        .row(Boundary::End)
-        .fill(0, has_time, table);
+    let none = RunStatistics::new(run.machine()).present_era(EraBoundary::End, 0);
+    fill_era(&none, has_time, table);
     table.end_heading();
-    let statistics = run_to_end(run, RunReport::Eras(has_time), table, writer)?;
+    let mut eras = EraLines {
+        has_time,
+        table,
+        writer,
+    };
+    let statistics = run_to_end(run, &mut eras)?;
     put_last(table, &statistics, has_time);
     send_table(table, writer)
 }

@@ -1,12 +1,9 @@
 //! The outcome of a document's run, for comparing it with another's.
-use crate::address_statistics::AddressStatistics;
-use crate::jobs::job_statistics_of;
 use crate::jobs_rows::{fill_deadline, fill_times, name_at};
-use crate::run_statistics::RunStatistics;
-use crate::running::statistics_of;
 use agc_run::Subject;
 use agc_scenario::Timing;
 use agc_session::RunFault;
+use agc_stats::{AddressStatistics, RunStatistics, job_statistics_of, statistics_of};
 use agc_table::{Row, right};
 use agc_text::Field::{Number, Seconds, Text};
 use agc_text::alarm_code;
@@ -15,15 +12,15 @@ use std::alloc::{AllocError, Global};
 /// The statistics of an address's jobs: its name, if a scenario gives one, the address, and the
 /// columns of `jobs`.
 #[derive(Drop)]
-pub(crate) struct JobsSummary {
+pub(crate) struct AddressSummary {
     pub(crate) name: Option<String>,
     pub(crate) at: u16,
     pub(crate) row: Row,
 }
 
-impl JobsSummary {
+impl AddressSummary {
     /// Whether the jobs of another document have the same name.
-    pub(crate) fn is_called_as(&self, other: &JobsSummary) -> bool {
+    pub(crate) fn is_called_as(&self, other: &AddressSummary) -> bool {
         match (&self.name, &other.name) {
             (None, None) => self.at == other.at,
             (Some(name), Some(called)) => name.as_str() == called.as_str(),
@@ -36,7 +33,7 @@ impl JobsSummary {
 #[derive(Drop)]
 pub struct RunSummary {
     pub(crate) totals: Row,
-    pub(crate) jobs: Vec<JobsSummary>,
+    pub(crate) jobs: Vec<AddressSummary>,
 }
 
 /// The statistics of an address's jobs, in a run that is known to have taken this time.
@@ -45,12 +42,12 @@ fn jobs_of(
     row: &AddressStatistics,
     timing: Option<&Timing>,
     time: Option<u64>,
-) -> Result<JobsSummary, AllocError> {
+) -> Result<AddressSummary, AllocError> {
     let name = match name_at(timing, row.at) {
         None => None,
         Some(name) => Some(String::from_str(alloc, name)?),
     };
-    let mut summary = JobsSummary {
+    let mut summary = AddressSummary {
         name,
         at: row.at,
         row: Row::new(alloc)?,
@@ -61,7 +58,7 @@ fn jobs_of(
 }
 
 /// The statistics of all jobs of a bench or a scenario.
-fn all_jobs(alloc: Global, subject: Subject<'_>) -> Result<Vec<JobsSummary>, RunFault> {
+fn all_jobs(alloc: Global, subject: Subject<'_>) -> Result<Vec<AddressSummary>, RunFault> {
     let job_statistics = job_statistics_of(alloc, subject)?;
     let timing = subject.timing();
     let time = timing.map(|_timing| job_statistics.instant);

@@ -1,15 +1,7 @@
 //! A scenario's run for each value of one of its numbers.
-ghost use Rattle.std.specs.Prelude.{IfOk};
-ghost use Rattle.agc_word.specs.Profiles.{count_of};
-ghost use Rattle.agc_run.specs.Runs.{clock_requests};
-ghost use Rattle.agc_session.specs.Runs.{machine_on};
-ghost use Rattle.agc_peaks.specs.Runs.{ArePeaks};
-
-use crate::run_statistics::RunPeaks;
-use crate::running::statistics_without_report;
-use agc_run::{PendingRequests, Run};
 use agc_scenario::{Number, Scenario};
-use agc_session::{Progress, RunFault, machine_on};
+use agc_session::{Progress, RunFault};
+use agc_stats::{RunPeaks, peaks_of};
 use agc_table::{Row, Table, TableForm, left, right, width_of};
 use agc_text::Field::{Seconds, Text};
 use agc_text::{Field, alarm_code};
@@ -65,20 +57,6 @@ impl Axis<'_> {
     }
 }
 
-/// The peaks of a scenario's run on this many core sets.
-fn peaks_in(alloc: Global, scenario: &Scenario, sets: Sets) -> Result<RunPeaks, RunFault>
-    ensures { IfOk result (λ peaks. ArePeaks (machine_on (count_of sets) scenario.now.bench)
-        (clock_requests scenario.now.timing (machine_on (count_of sets) scenario.now.bench))
-        peaks) }
-{
-    let machine = machine_on(alloc, scenario.bench(), sets)?;
-    let mut run = Run::new(machine, PendingRequests::of_scenario(scenario.timing()));
-    match statistics_without_report(alloc, &mut run) {
-        Ok(statistics) => Ok(statistics.peaks()),
-        Err(fault) => Err(fault),
-    }
-}
-
 /// The peaks of a scenario's run with these values of its numbers. They keep these values.
 pub(crate) fn peaks_with(
     alloc: Global,
@@ -94,7 +72,7 @@ pub(crate) fn peaks_with(
             SweepParameter::Number(number) => scenario.exchange(alloc, number, *value)?,
         }
     }
-    peaks_in(alloc, scenario, sets)
+    peaks_of(alloc, scenario, sets)
 }
 
 /// The number of runs: one for each value of each number with each of the others.

@@ -1,0 +1,11 @@
+pub mod Addresses
+pub mod Boundaries
+pub mod Eras
+pub mod Followed
+pub mod Following
+pub mod JobRuns
+pub mod ObservedJobs
+pub mod Lives
+pub mod Occupancies
+pub mod Runs
+pub mod Steps
