@@ -97,5 +97,5 @@ function makeFields() {
   });
   const [every, needs, deadline] = Object.keys(FIELDS).map((it) => labelled(`${FIELDS[it].label}, s`, fields[it]));
   fill("build-fields", [labelled("job", fields.name), every, needs, labelled("priority", fields.priority), deadline,
-    make("label", { class: "check" }, fields.hasArea, " takes a VAC area, too"), button("Add", go, { id: "build-add", class: "primary" })]);
+    make("label", { class: "check", title: "A longer block of memory, of which there are five" }, fields.hasArea, " takes a VAC area, too"), button("Add", go, { id: "build-add", class: "primary" })]);
 }

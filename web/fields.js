@@ -83,8 +83,7 @@ function runsAt(run, row, when) {
 
 /** What addresses mean that don't all begin again. @param {Run} run @param {string} given @param {string[]} right */
 function meansAgain(run, given, right) {
-  const all = plainly(given).split(" ");
-  const wrong = all.filter((it) => /^[0-7]{5}$/.test(it) && !right.includes(it));
+  const all = plainly(given).split(" "), wrong = all.filter((it) => /^[0-7]{5}$/.test(it) && !right.includes(it));
   return wrong.length > 0 ? `${wrong.join(", ")}: no phase that is set names ${wrong.length === 1 ? "it" : "them"} here.` : all.some((it) => right.includes(it)) ? "That is right, but not all." : "";
 }
 
@@ -189,8 +188,7 @@ const ranked = (bench, order) => runOf(order.reduce((made, name, k) => ({ ...mad
 /** When the jobs of this name end, or first don't in time. @param {Run} run @param {string} given */
 function meansLate(run, given) {
   const row = jobsOf(run, run.count).find((it) => namesOf(run).job(it.at) === given);
-  if (row === undefined || row.deadline === null) return "";
-  return row.missed === 0 ? `Each ${given} ends in time: after ${took(row.most, 99)} at most, of ${seconds(row.deadline)}.` : `The ${given} is late, too, but not at first.`;
+  return row === undefined || row.deadline === null ? "" : row.missed === 0 ? `Each ${given} ends in time: after ${took(row.most, 99)} at most, of ${seconds(row.deadline)}.` : `The ${given} is late, too, but not at first.`;
 }
 
 /** Whose load this is, of those that are asked for together. @param {Run} run @param {string} given */
@@ -201,8 +199,7 @@ function meansLoad(run, given) {
 
 /** How many jobs were counted. @param {Run} run @param {string} given */
 function meansMissed(run, given) {
-  const all = jobsOf(run, run.count);
-  const one = all.find((it) => it.began === Number(given));
+  const one = jobsOf(run, run.count).find((it) => it.began === Number(given));
   return one !== undefined ? `So many ${namesOf(run).job(one.at)} jobs begin: does none of them end in time?` : given === "0" ? "Then each of them would end in time." : "";
 }
 

@@ -11,7 +11,7 @@ const KEYS = [
   ["space", "run the clock, or pause"], [". n", "a centisecond; to the next event"],
   ["u r", "undo, redo"], ["b o e", "new, open, examples"], ["d s", "edit, save"],
   ["+ -", "closer, wider"], ["[ ]", "move along the chart"], ["f x", "all of the chart; to an alarm"],
-  ["P", "larger, for a projector: chart and story alone"], ["?", "this help"],
+  ["P", "larger, for a projector: chart, story and table of jobs"], ["?", "this help"],
 ];
 
 /** Words and what they mean. @param {string[][]} rows @param {(word: string) => any[]} spelled how a word is written */

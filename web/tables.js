@@ -130,7 +130,7 @@ function drawBase({ scene: { phases, codes, next, running }, last }) {
 function drawHeadings({ isAfter, line, scene }) {
   const more = isAfter ? `, after the ${nameOfRestart(line)}` : "";
   const count = (/** @type {any[]} */ all) => all.filter((it) => it !== null && it !== 0).length;
-  const headings = { sets: ["Core sets", count(scene.sets), scene.sets.length], areas: ["VAC areas (more memory, for jobs that ask for it)", count(scene.areas), 5], tasks: ["Waitlist", scene.tasks.length, PLACES] };
+  const headings = { sets: ["Core sets", count(scene.sets), scene.sets.length], areas: ["VAC areas", count(scene.areas), 5], tasks: ["Waitlist", scene.tasks.length, PLACES] };
   for (const [id, [name, used, all]] of Object.entries(headings)) set(by(`${id}-name`), `${name}${more}: ${used} of ${all} in use`);
 }
 
@@ -158,10 +158,9 @@ export function tables(now, before) {
   const isAsked = now.run.bench.seconds === undefined && now.count > 0;
   const isOther = now.run.given !== before.run?.given || (now.count > 0) !== (before.count > 0);
   if (alarm === 0o1203 || isOther) assign(by("more"), { open: isAsked || alarm !== 0 });
-  by("tables").classList.toggle("after", shown.isAfter === true);
-  by("tables").classList.toggle("begins", shown.row === 0);
   // (of a bench that is asked by hand the tables are what one looks at)
-  by("tables").classList.toggle("leads", now.run.bench.seconds === undefined && now.run.source.document === "");
+  const styles = { after: shown.isAfter === true, begins: shown.row === 0, leads: now.run.bench.seconds === undefined && now.run.source.document === "" };
+  for (const [name, is] of Object.entries(styles)) by("tables").classList.toggle(name, is);
   for (const id of ["sets", "tasks"]) by(id).classList.toggle("swept", shown.isAfter === true);
   draw("sets", scene.sets.map((_, k) => setBox(shown, k, names, colours)), differ(now, before, "run", "at"));
   draw("areas", scene.areas.map((_, k) => areaBox(shown, k, names, colours)));

@@ -22,9 +22,13 @@ def try_building(browser, trial):
     browser.click("new")
     browser.value(ADD.replace("GIVEN", json.dumps(["guidance", "0", "1.7", "20", "2", True])))
     trial.expect(f"a wrong period: {browser.text('build-fault')}", browser.text("build-fault") == "every: a number, 0.01 to 162.5 (seconds)")
+    trial.expect("no choice of an area is seen", "takes a VAC area" in browser.value("document.getElementById('build').innerText"))
+    places = []
     for given in ["guidance", "2", "1.7", "20", "2", True], ['a "quoted" one', "1", "0.4", "30", "", False]:
         browser.value(ADD.replace("GIVEN", json.dumps(given)))
         filled(browser)
+        places.append(browser.value("['build', 'sliders', 'edit-box'].map((it) => document.getElementById(it).getBoundingClientRect().top)"))
+    trial.expect(f"what is in use moves, or the document isn't below it: {places}", places[0][:2] == places[1][:2] and places[1][2] > places[1][1])
     browser.wait("!document.getElementById('jobs-box').hidden")
     trial.expect(browser.text("jobs-sum"), browser.text("jobs-sum").startswith('Jobs, over all 60 s: guidance 85 % + a "quoted" one 40 % = 125 %; '))
     document = browser.value("document.getElementById('edit-text').value")

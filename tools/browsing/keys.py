@@ -14,7 +14,7 @@ HELPED = ("← → the row before, the next row", "Home End the first row, the l
           "c C the next change, the change before", "g go to a request or a time", "i / type a request", "space run the clock, or pause",
           ". n a centisecond; to the next event", "u r undo, redo", "b o e new, open, examples", "d s edit, save", "+ - closer, wider",
           "[ ] move along the chart", "f x all of the chart; to an alarm",
-          "P larger, for a projector: chart and story alone", "? this help")
+          "P larger, for a projector: chart, story and table of jobs", "? this help")
 
 def try_keys(browser, trial):
     """Each key presses the control that the help and the control name; none does in a field or a dialog."""

@@ -1,7 +1,7 @@
 """What if: sliders that act at once, and what came of it beside what was."""
 import re
 
-from browsing.browser import LAPTOP
+from browsing.browser import LAPTOP, PHONE
 from browsing.pages import DRAWN, Trial, exercise, open_text, page_of, save, says, set_slider, table, texts
 
 IN_VIEW = """['run', 'speed', 'state', ...(innerWidth > 900 ? ['sliders', 'told-name'] : [])].filter((id) => {
@@ -82,6 +82,12 @@ def try_jobs(browser, trial):
     browser.value("document.querySelector('#jobs button').click()")
     # (the first slow job begins at 0.01 s, and has 1.50 s)
     says(browser, trial, "the first that is missed", "at 1.52 s: tick.")
+    trial.expect("the table changes with the row", browser.text("jobs-sum") == said[0])
+    browser.width(*PHONE)
+    seen = browser.value("Array.from(document.querySelectorAll('#jobs td'), (it) => { const box = it.getBoundingClientRect(); return box.width > 0 && box.right > innerWidth; }).includes(true)")
+    named = browser.value("getComputedStyle(document.querySelector('#jobs td:nth-child(12)'), '::before').content")
+    trial.same("on a phone numbers beyond its edge, and the name of the last", (seen, named), (False, '"at most "'))
+    browser.width(*LAPTOP)
     trial.expect("priorities are folded where jobs have deadlines", browser.value("document.querySelector('#sliders details').open"))
     trial.same("what would help", browser.text("jobs-order"), "No order of priorities helps: if all jobs are asked for at once, with each order one is late.")
     browser.value("Array.from(document.querySelectorAll('#sliders details')[0].querySelectorAll('.over')).at(-1).click()")
