@@ -122,7 +122,7 @@ function showTried(now) {
   const lines = isTours(now) ? tried.map(triedText) : [];
   const [list, before] = [by("tried"), by(step > 0 ? "guide-text" : "try")];
   if (list.nextSibling !== before) before.before(list);
-  attribute(list, "aria-busy", String(tried.some((it) => it.run.isFilling)));
+  attribute(list, "aria-busy", lines.length === 0 ? null : String(tried.some((it) => it.run.isFilling)));
   if (list.childElementCount !== lines.length) fill(list, lines.map(() => make("li")));
   lines.forEach((it, k) => {
     set(list.children[k], it);
