@@ -71,8 +71,8 @@ def try_examples(browser, trial):
     browser.click("examples")
     browser.value("document.querySelector('[aria-label=Exercises] button').click()")
     found = texts(browser, "#question p"), texts(browser, "#asked pre"), texts(browser, "#try button")
-    trial.expect(f"an exercise: {found}", found[0] == "Keep two counts while you read down the script: how many core sets are in use, and how many "
-                 "VAC areas. Which request is one too many, and which alarm does it raise?" and found[1].startswith("findvac 20 02000 00005\n") and not found[2])
+    trial.expect(f"an exercise: {found}", found[0] == "Count core sets and VAC areas in use while you read down the script. Which request is one too many, "
+                 "and which alarm does it raise?" and found[1].startswith("findvac 20 02000 00005\n") and not found[2])
     browser.click("show-answer")
     trial.expect("the button for the answer stays", browser.value("document.getElementById('show-answer') === null"))
     noise = base64.b64encode(random.Random(3).randbytes(9000)).decode()
