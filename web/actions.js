@@ -13,6 +13,7 @@ import { told as toldOf } from "./examples.js";
 import { documentOfScript, isScript } from "./forgive.js";
 import { firstSentence, questionOf, withoutQuestion } from "./files.js";
 import { goingOn, left, stepped, NOTHING_DONE } from "./history.js";
+import { nextMissed } from "./jobs.js";
 import { judged } from "./predict.js";
 import { MOST_ASKED, NO_SOURCE, STRETCH } from "./run.js";
 import { scaleOf, shownOf } from "./state.js";
@@ -381,6 +382,11 @@ export const ACTIONS = {
   "to-alarm": toAlarm,
   /** To the row by which a job has missed its deadline, with what came before. */
   late: (s, row) => ({ ...go(s, row), ...(isLong(s.run) ? { seen: around(s, row) } : {}) }),
+  "late-next"(s) {
+    const all = whole(s);
+    const row = nextMissed(all.run, all.count, s.at);
+    return row === null ? told(all, "No deadline is missed after this row.") : { count: all.count, ...ACTIONS.late(all, row) };
+  },
   toggle: (s, strip) => ({ opened: toggled(s.opened, strip) }),
   /** Shows when the first alarm comes, over all values of a slider. */
   sweep: (s, name) => ({ swept: toggled(s.swept, name) }),

@@ -1,6 +1,6 @@
 /**
- * What can be said of jobs before they run, by response-time analysis for fixed priorities: the longest response of each, if all
- * are asked for at once; up to which utilization it needs none; and whether any order of priorities keeps all deadlines.
+ * What can be said of jobs before they run, by response-time analysis for fixed priorities: the longest response of each, which is
+ * where all are asked for at once; up to which utilization it needs none; and whether any order of priorities keeps all deadlines.
  *
  * @typedef {import("./bench.js").Bench} Bench
  * @typedef {{ at: string, cost: number, period: number, priority: number, deadline: number }} Stream jobs of one address that are
@@ -63,7 +63,7 @@ function longest(own, others, stolen, isFirst = false) {
       end = next;
       continue;
     }
-    // (of two jobs of one kind the later may go first, so each may take as long as there is work without a gap)
+    // (of two jobs of one kind that are alive the later may go first: then each may take as long as there is work without a gap)
     if (isFirst || end <= count * own.period) return end;
     count += 1;
   }

@@ -9,7 +9,7 @@ import { short } from "./because.js";
 import { assign, button, by, fill, labelled, make, priorities, set } from "./dom.js";
 import { periodOf, priorityOf } from "./jobs.js";
 import { act, differ } from "./state.js";
-import { octal } from "./words.js";
+import { lineFault, octal } from "./words.js";
 
 /** @typedef {import("./state.js").State} State */
 
@@ -57,11 +57,20 @@ function add(fields, jobs) {
     fields[Object.keys(FIELDS)[wrong]].focus();
     return;
   }
+  const typed = fields.name.value.trim();
+  if (/^(novac|findvac)\b|\b[0-7]{5}\b/.test(typed) || lineFault(typed) === null) {
+    set(by("build-fault"), `“${typed}” is a request, and no job's name: press Ask, in Ask the machine.`);
+    assign(fields.name, { value: "" });
+    assign(by("line"), { value: typed });
+    by("line").focus();
+    return;
+  }
   const ticks = (/** @type {string} */ id) => Math.round(100 * Number(fields[id].value.replace(",", ".")));
-  const name = fields.name.value.trim() || `job ${jobs.length + 1}`;
+  const name = typed || `job ${jobs.length + 1}`;
   act("build", [...jobs, { name, every: ticks("every"), needs: ticks("needs"), priority: parseInt(fields.priority.value, 8),
     deadline: fields.deadline.value === "" ? undefined : ticks("deadline"), hasArea: fields.hasArea.checked }]);
-  fields.name.select();
+  assign(fields.name, { value: "" });
+  fields.name.focus();
 }
 
 /** @param {Built} job @param {Built[]} jobs */
@@ -96,6 +105,6 @@ function makeFields() {
     if (event.key === "Enter" && event.target instanceof HTMLInputElement) go();
   });
   const [every, needs, deadline] = Object.keys(FIELDS).map((it) => labelled(`${FIELDS[it].label}, s`, fields[it]));
-  fill("build-fields", [labelled("job", fields.name), every, needs, labelled("priority", fields.priority), deadline,
+  fill("build-fields", [labelled("job", fields.name), every, needs, labelled("priority (octal, 01 to 37)", fields.priority), deadline,
     make("label", { class: "check", title: "A longer block of memory, of which there are five" }, fields.hasArea, " takes a VAC area, too"), button("Add", go, { id: "build-add", class: "primary" })]);
 }

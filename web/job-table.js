@@ -10,7 +10,8 @@ import { counted, octal, seconds, took } from "./words.js";
 /** @typedef {import("./state.js").State} State @typedef {import("./jobs.js").JobRow} JobRow */
 
 /** What the table's times are, and when the load is safe that is calculated. */
-const TOLD = "Least, mean and greatest are measured in this run, from where a job is asked for to where it ends. At most is calculated: it holds if all jobs are asked for at once, and no alarm comes.";
+const TOLD = "Least, mean and greatest are measured in this run, from where a job is asked for to where it ends. At most is calculated by response-time analysis, for the worst case, in which all jobs are asked for at once and no alarm comes. "
+  + "Where a job can take longer than its period, one that was asked for later may overtake it, since of equals the lowest number goes first: at most allows for that, and is then more than textbooks have.";
 const SAFE = "is always safe: n (2^(1/n) - 1) of the time that isn't stolen, with n kinds of jobs, if the shorter period has the greater priority, and no deadline comes before the next job.";
 
 const percent = (/** @type {number} */ part) => `${Math.round(100 * part)} %`;
@@ -74,12 +75,14 @@ export function jobs(now, before) {
   if (run.isFilling) {
     // (what another run came to isn't said of this one)
     if (run !== before.run) fill("jobs-sum", ["Jobs …"]);
+    assign(by("late-next"), { hidden: true });
     return;
   }
   const { parts, stolen, all, time, bounds } = tableOf(now);
-  assign(box, { hidden: parts.length === 0 || isHidden(now) });
-  if (box.hidden) return;
   const missed = parts.reduce((sum, it) => sum + it.row.missed, 0);
+  assign(box, { hidden: parts.length === 0 || isHidden(now) });
+  assign(by("late-next"), { hidden: box.hidden || missed < 2 });
+  if (box.hidden) return;
   const told = [...parts.filter((it) => it.part > 0).map(({ name, part }) => `${name} ${percent(part)}`), ...(stolen > 0 ? [`stolen ${percent(stolen)}`] : [])];
   fill("jobs-sum", [`Jobs, over ${time}: ${told.join(" + ")}${told.length > 1 ? ` = ${percent(all)}` : ""}`,
     ...(missed > 0 ? ["; ", make("span", { class: "late" }, `${counted(missed, "deadline")} missed`)] : [])]);

@@ -5,7 +5,7 @@
  * @typedef {import("./run.js").Run} Run
  * @typedef {{ at: number, priority: number, period: number | null, cost: number | { from: number, to: number } | null, deadline: number | null,
  *   began: number, ended: number, lost: number, alive: number, least: number, mean: number, most: number, share: number,
- *   missed: number, firstMissed: number | null, missedRow: number }} JobRow
+ *   dues: number[], missed: number, firstMissed: number | null, missedRow: number }} JobRow   `dues`: the deadlines that are missed
  */
 import { State, lastUpTo, lastWhere } from "./lanes.js";
 import { counted, octal, took } from "./words.js";
@@ -71,13 +71,21 @@ export function jobsOf(run, count) {
     else row.responses.push(end - run.momentAt(born >> 1));
     const due = run.momentAt(born >> 1) + 100 * (row.deadline ?? Infinity);
     if (end <= due) continue;
+    row.dues.push(due);
     row.missed += 1;
-    if (row.firstMissed !== null && row.firstMissed <= due) continue;
-    // (the first row after it)
-    [row.firstMissed, row.missedRow] = [due, 1 + lastWhere(count, (it) => run.momentAt(it) <= due)];
+    if (row.firstMissed === null || due < row.firstMissed) [row.firstMissed, row.missedRow] = [due, rowAfter(run, count, due)];
   }
   const computed = computedOf(run, count, isOver);
   return [...rows.values()].map((row) => summedUp(row, computed.get(row.at) ?? 0, now));
+}
+
+/** The first row after a moment. @param {Run} run @param {number} count @param {number} moment */
+const rowAfter = (run, count, moment) => 1 + lastWhere(count, (it) => run.momentAt(it) <= moment);
+
+/** The row by which the next deadline is missed; null where none is. @param {Run} run @param {number} count @param {number} row */
+export function nextMissed(run, count, row) {
+  const due = jobsOf(run, count).flatMap((it) => it.dues).reduce((least, it) => (it >= run.momentAt(row) ? Math.min(least, it) : least), Infinity);
+  return due === Infinity ? null : rowAfter(run, count, due);
 }
 
 /** How many deadlines are missed up to a row. @param {Run} run @param {number} count */
@@ -136,7 +144,7 @@ function usedBefore(run, row, hasCost) {
 function rowOf({ bench }, at, priority) {
   const given = bench.job.find((it) => parseInt(it.at, 8) === at);
   return { at, priority, period: periodOf(bench, octal(at, 5)), cost: given?.cost ?? null, deadline: given?.deadline ?? null, began: 0, ended: 0, lost: 0, alive: 0,
-    least: 0, mean: 0, most: 0, share: 0, missed: 0, firstMissed: null, missedRow: 0, responses: /** @type {number[]} */ ([]) };
+    least: 0, mean: 0, most: 0, share: 0, missed: 0, dues: /** @type {number[]} */ ([]), firstMissed: null, missedRow: 0, responses: /** @type {number[]} */ ([]) };
 }
 
 /** @param {JobRow & { responses: number[] }} row @param {number} computed @param {number} now @returns {JobRow} */

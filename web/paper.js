@@ -8,12 +8,13 @@
  * @typedef {import("./account.js").Names} Names
  */
 import { accountOf } from "./account.js";
-import { becauseOf, short } from "./because.js";
+import { becauseOf, lateOf, short } from "./because.js";
 import { summaryOf } from "./drawing-words.js";
 import { by, fill, make, withCode, withNumbers } from "./dom.js";
 import { paint } from "./drawing-pens.js";
 import { EXERCISES } from "./fields.js";
 import { linesOf } from "./job-table.js";
+import { nextMissed } from "./jobs.js";
 import { cellsOf, styleOf } from "./list.js";
 import { isSaved } from "./saving.js";
 import { pictureSeen } from "./stage.js";
@@ -54,7 +55,7 @@ function requestsOf(run, count, names) {
   return [make("h2", {}, "Requests"), ...more, make("table", {}, by("rows").querySelector("thead").cloneNode(true), make("tbody", {}, ...lines))];
 }
 
-/** The jobs of a scenario, and why each alarm came. @param {State} now @param {Names} names */
+/** The jobs of a scenario, why the first deadline is missed, and why each alarm came. @param {State} now @param {Names} names */
 function reasonsOf(now, names) {
   const { run, count } = now;
   const alarms = run.alarms.filter((it) => it <= count);
@@ -66,7 +67,10 @@ function reasonsOf(now, names) {
       make("p", { class: "because" }, becauseOf(run, shown, names)), make("pre", {}, accountText(run, { ...shown, after: null }, names)));
   });
   const left = alarms.length - told.length;
-  return [make("h2", {}, "Jobs"), jobs, ...(told.length === 0 ? [] : [make("h2", {}, "Why each alarm came"), make("div", { class: "reasons" }, ...told)]),
+  const missed = nextMissed(run, count, 0);
+  const late = missed === null ? null : lateOf(run, run.show(missed, missed)[0], names);
+  return [make("h2", {}, "Jobs"), jobs, make("p", {}, by("jobs-told").textContent),
+    ...(late === null ? [] : [make("h2", {}, "Why the first deadline is missed"), make("p", { class: "because" }, `${late.text.slice(0, 1).toUpperCase()}${late.text.slice(1)}`)]), ...(told.length === 0 ? [] : [make("h2", {}, "Why each alarm came"), make("div", { class: "reasons" }, ...told)]),
     ...(left > 0 ? [make("p", {}, `And ${counted(left, "more alarm")}.`)] : [])];
 }
 

@@ -29,6 +29,9 @@ export function isTourSeen() {
   }
 }
 
+/** What else the page is for. @type {Try} */
+const DEADLINES = ["Deadlines: one job too late", "kept", "still-too-late"];
+
 /** What hasn't been guessed yet. @param {State} now @returns {Try[]} */
 const guessesOf = ({ tour: { tried } }) => Object.entries(GUESSES).filter(([name]) => !tried.some((it) => it.name === name)).map(([name, { label }]) => [label, "guess", name]);
 
@@ -42,7 +45,7 @@ function tourOf(now) {
   const guesses = guessesOf(now);
   return /** @type {{ text: string, steps: Try[] }[]} */ ([
     { text: "In July 1969, minutes before it landed on the Moon, Apollo 11's computer ran out of room. This landing is like that one.\nThe computer shares its time "
-        + "among jobs. Each job needs a core set, a block of twelve words of memory, and there are seven: the rows of the picture.", steps: [["Run", "run"]] },
+        + "among jobs. Each job needs a core set, a block of twelve words of memory, and there are seven: the rows of the picture.", steps: [["Run", "run"], DEADLINES] },
     { text: "Every two seconds a guidance job begins, the SERVICER. With a display, and a radar that steals computing time from all jobs, there is 2.24 s of work in every two.\n"
         + "Bright: the job that runs. Pale: jobs that wait, and still hold their core sets.",
       steps: [run.isAlarm(at) ? ["What happened?", "tour", 3] : ["To the alarm", "alarm-next"]] },
@@ -136,7 +139,7 @@ const begun = (text) => text.slice(0, 1).toUpperCase() + text.slice(1);
 /** At the beginning, and at the end: how to go on. @param {State} now @returns {Try[]} */
 function atBeginning({ run, count, tour }) {
   if (count === 0 && run.source.document !== "") return [];
-  if (count === 0) return [tour.left > 0 ? ["Back to the tour", "tour-again"] : ["A landing with alarm 1202", "kept", "landing-1202"]];
+  if (count === 0) return [tour.left > 0 ? ["Back to the tour", "tour-again"] : ["A landing with alarm 1202", "kept", "landing-1202"], DEADLINES];
   const alarm = run.alarms.find((row) => row <= count);
   const late = run.isFilling ? 0 : Math.min(...jobsOf(run, count).flatMap((it) => it.missedRow || []));
   return /** @type {Try[]} */ ([...(alarm === undefined ? [] : [["To the first alarm", "go", alarm]]), ...(late > 0 && late < Infinity ? [["To the first deadline missed", "late", late]] : [])]);

@@ -220,7 +220,7 @@ test("the tour goes on by itself, and never back", () => {
 test("the tour waits while something else is open, and keeps its guesses", () => {
   const page = new Page("#landing").act("tour-again").act("run").act("alarm-next").act("guess", "set");
   const told = () => [page.now.tour.step, page.now.tour.left, page.now.tour.tried.map((/** @type {any} */ it) => it.name)];
-  assert.deepEqual([page.act("new").tries, told()], [["Back to the tour"], [0, 4, ["set"]]]);
+  assert.deepEqual([page.act("new").tries, told()], [["Back to the tour", "Deadlines: one job too late"], [0, 4, ["set"]]]);
   assert.deepEqual([page.act("tour-again").now.run.isAlarm(page.now.at), told()], [true, [4, 0, ["set"]]]);
   // (who skips it guesses on at the alarm)
   assert.deepEqual([page.act("tour", 0).tries, told()], [["After the restart", "No stolen time", "No display", "A shorter guidance"], [0, 4, ["set"]]]);

@@ -22,6 +22,10 @@ def try_building(browser, trial):
     browser.click("new")
     browser.value(ADD.replace("GIVEN", json.dumps(["guidance", "0", "1.7", "20", "2", True])))
     trial.expect(f"a wrong period: {browser.text('build-fault')}", browser.text("build-fault") == "every: a number, 0.01 to 162.5 (seconds)")
+    browser.value(ADD.replace("GIVEN", json.dumps(["novac 20 02000 00005", "2"])))
+    found = browser.value("['#build-fields input', '#line'].map((it) => document.querySelector(it).value)")
+    trial.same("a request for a name", (found, "is a request" in browser.text("build-fault")), (["", "novac 20 02000 00005"], True))
+    browser.value("document.getElementById('line').value = ''")
     trial.expect("no choice of an area is seen", "takes a VAC area" in browser.value("document.getElementById('build').innerText"))
     places = []
     for given in ["guidance", "2", "1.7", "20", "2", True], ['a "quoted" one', "1", "0.4", "30", "", False]:

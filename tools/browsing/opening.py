@@ -62,7 +62,7 @@ def opening(browser, folder):
         trial.same("the seconds in view", browser.value("document.getElementById('chart-box').dataset.seen"), "0-3507")
         told = browser.value(GUIDE)
         trial.expect(told, told.startswith("1 of 5. ") and "a block of twelve words" in told and "there are seven" in told)
-        trial.same("at first one sees", browser.value(PRESSED), "Examples|New|Share|Help|Run|Skip")
+        trial.same("at first one sees", browser.value(PRESSED), "Examples|New|Share|Help|Run|Deadlines: one job too late|Skip")
         try_minute(browser, trial, size)
     try_remembered(browser, trial, path)
     for mark, wanted in ("#apollo-11", "50"), ("#landing-1202", "5"), ("#landing", "5"), ("#no-vac-area", "1"), ("#new", "1"):

@@ -83,6 +83,8 @@ def try_jobs(browser, trial):
     # (the first slow job begins at 0.01 s, and has 1.50 s)
     says(browser, trial, "the first that is missed", "at 1.52 s: tick.")
     trial.expect("the table changes with the row", browser.text("jobs-sum") == said[0])
+    browser.click("late-next")
+    says(browser, trial, "the second that is missed", "at 3.02 s: tick.")
     browser.width(*PHONE)
     seen = browser.value("Array.from(document.querySelectorAll('#jobs td'), (it) => { const box = it.getBoundingClientRect(); return box.width > 0 && box.right > innerWidth; }).includes(true)")
     named = browser.value("getComputedStyle(document.querySelector('#jobs td:nth-child(12)'), '::before').content")
