@@ -9,7 +9,7 @@
  * @typedef {import("./drawing.js").Selection} Selection
  * @typedef {{ x: number, y: number, name: string }} Point
  * @typedef {{ fill: string, share?: number, texts?: string[], look?: import("./drawing.js").Look & { ground?: string },
- *   hatch?: string, told?: import("./drawing.js").Told, job?: import("./lanes.js").Block }} Block `share`: of the height
+ *   brief?: string, hatch?: string, told?: import("./drawing.js").Told, job?: import("./lanes.js").Block }} Block `share`: of the height; `brief`: where no text fits
  */
 import { short } from "./because.js";
 import { outcomeOf } from "./drawing-words.js";
@@ -51,14 +51,14 @@ function drawLog(sheet, log, lane, blockOf, scale = sheet.scale) {
 
 /** @param {Sheet} sheet @param {Block} block @param {number[]} box left, right, top and height of its lane */
 function drawBlock(sheet, block, [left, right, top, high]) {
-  const { fill, texts = [], look, hatch, told, share = 1, job } = block;
+  const { fill, texts = [], look, hatch, told, share = 1, job, brief = "" } = block;
   const tall = share === 1 ? high : Math.max(2, share * high);
   const wide = right - left - (right - left > LEAST_APART && share === 1 ? APART : 0);
   const corners = wide > 4 * ROUND && share === 1 ? [ROUND] : [];
   sheet.rect([left, top + high - tall, wide, tall, ...corners], fill, right - left < LEAST_TOLD ? undefined : told);
   if (hatch !== undefined) sheet.hatch([left, left + wide, top, high], hatch);
   if (job !== undefined) markJob(sheet, job, [left, left + wide, top, high]);
-  sheet.label(texts, [left, right, top, high], look);
+  if (!sheet.label(texts, [left, right, top, high], look)) sheet.label([brief], [left, right, top, high], look);
 }
 
 /** On a job's block: a frame where it is selected; where it was asked for, a mark upwards, and its deadline, downwards: a red
@@ -84,11 +84,13 @@ function markJob(sheet, { id, at, from, to }, [left, right, top, high]) {
 
 /** A lane for each core set, VAC area, or place of the Waitlist that is ever taken. @param {Sheet} sheet @param {Kind} kind */
 export function drawLanes(sheet, kind) {
-  const { high, isStill } = sheet.view;
-  sheet.run.lanes.logs[kind].forEach((log, k) => {
-    if (kind === "task" && k > 0 && log.isFree) return;
+  const { high, isStill, isJoined } = sheet.view;
+  sheet.run.lanes.logs[kind].forEach((log, k, all) => {
+    const isNext = k > 0 && log.isFree && all[k - 1].isFree;
+    if ((kind === "task" && k > 0 && log.isFree) || (isJoined && isNext)) return;
+    const name = isJoined && log.isFree && k < all.length - 1 ? `${k}–${all.length - 1}` : `${kind} ${kind === "set" ? k : k + 1}`;
     const tall = kind !== "set" ? sheet.line : log.isFree && isStill ? Math.max(sheet.size + 3, high / 2) : high;
-    const top = sheet.lane(`${kind} ${kind === "set" ? k : k + 1}`, tall, { kind, k });
+    const top = sheet.lane(name, tall, { kind, k });
     drawLog(sheet, log, [top + 2, tall - 4], (entry) => blockOf(sheet, kind, k, entry));
   });
   if (kind === "set") sheet.y += 6;
@@ -103,10 +105,13 @@ function blockOf(sheet, kind, k, entry, scale = sheet.scale) {
   if (kind === "task") return { fill: "used", texts: [sheet.taskName(id)], told };
   const [at, number] = [lanes.jobs.at.items[id], lanes.jobs.more.items[id]];
   const [colour, name] = [sheet.colours.of(at), sheet.names.job(at)];
-  const texts = name === undefined ? [`job ${number} at ${octal(at, 5)}`, `job ${number}`, String(number)] : [name];
+  // (by its number one sees which of two is overtaken)
+  const isNumbered = sheet.parts.has("notes") && scale.isTime && sheet.deadlines.get(at) !== undefined;
+  const texts = name === undefined ? [`job ${number} at ${octal(at, 5)}`, `job ${number}`, String(number)] : isNumbered ? [`${name} #${number}`, name] : [name];
+  const brief = isNumbered ? `#${number}` : "";
   const job = kind === "set" ? lanes.block(k, entry) ?? undefined : undefined;
-  if (job === undefined || job.state === State.RUNS) return { fill: `b${colour}`, texts, look: { fill: `i${colour}` }, told, job };
-  const pale = { fill: `p${colour}`, told, job };
+  if (job === undefined || job.state === State.RUNS) return { fill: `b${colour}`, texts, look: { fill: `i${colour}` }, told, job, brief };
+  const pale = { fill: `p${colour}`, told, job, brief };
   if (job.state === State.SLEEPS) {
     const fill = `h${colour}`;
     return { ...pale, fill, texts: [`${name ?? `job ${number}`}, asleep`, ...texts], look: { fill: "pale", ground: fill }, hatch: pale.fill };

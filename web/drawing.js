@@ -8,9 +8,9 @@
  * @typedef {{ kind: "job" | "task", id: number }} Selection
  * @typedef {{ width: number, from?: number, to?: number, high?: number, text?: number, least?: number, strips?: string[],
  *   all?: number, opened?: string[], parts?: string[], selection?: Selection | null, before?: { run: Run, count: number } | null,
- *   theme?: "light" | "dark" | "forced", names?: Names, colours?: Colours, isStill?: boolean,
+ *   theme?: "light" | "dark" | "forced", names?: Names, colours?: Colours, isStill?: boolean, isJoined?: boolean,
  *   isBare?: boolean, title?: string }} View `isStill`: it doesn't change, so what is empty all the time may
- *   be thin; `isBare`: it has no text, and all of its width is the run's
+ *   be thin; `isJoined`: core sets that are empty all the time are one lane; `isBare`: it has no text, and all of its width is the run's
  * @typedef {string | { kind: import("./lanes.js").Kind, k: number, entry: number }} Told what a mark is about,
  *   which an SVG has as its title: a text, or an entry of a lane's log
  * @typedef {{ kind: "rect", x: number, y: number, width: number, height: number, fill: string, round?: number, told?: Told }} Rect

@@ -89,7 +89,7 @@ export function chart(now, before) {
 
 /** @param {State} now @param {ReturnType<typeof sizes>} size */
 function paintNow(now, size = sizes(now)) {
-  const sheet = pictureAs(now, { width: by("lanes-box").clientWidth, before: now.before, theme: themeNow(), ...size });
+  const sheet = pictureAs(now, { width: by("lanes-box").clientWidth, before: now.before, theme: themeNow(), isJoined: now.isProjected && !now.run.isFilling, ...size });
   const { scale: { from, to, isWhole }, top, bottom, marks } = sheet;
   const late = marks.filter(({ ends }) => ends !== undefined && ends > sheet.left);
   paint(by("lanes-chart"), { ...sheet, marks: marks.filter((it) => !late.includes(it)) });

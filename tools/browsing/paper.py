@@ -27,7 +27,7 @@ def paper(browser, folder):
     for name in "landing-1202", "landing", "apollo-11":
         browser.show(path, f"#{name}")
         pages, parts = printed(browser)
-        trial.expect(f"{name} is printed on {pages} pages, with {parts}", pages <= 2 and parts == "h1 p canvas h2 table h2 div")
+        trial.expect(f"{name} is printed on {pages} pages, with {parts}", pages <= 2 and parts == "h1 p canvas h2 table p h2 div")
         jobs, text = texts(browser, "#printed .jobs td:first-child"), browser.text("printed")
         trial.expect(f"{name} is printed with the jobs {jobs}", "SERVICER" in jobs and "`" not in text)
         browser.scheme("light", media="print")
