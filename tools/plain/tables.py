@@ -16,7 +16,7 @@ def seconds(centiseconds):
 
 # Traces.
 
-COLUMNS = ["no", "time", "total", "by", "request", "reply", "alarm", "running", "priority", "sets", "areas", "tasks",
+COLUMNS = ["no", "time", "total", "by", "request", "reply", "alarm", "running", "priority", "sets_used", "areas_used", "tasks_waiting",
            *(f"set{k}" for k in range(8)), *(f"area{k}" for k in range(1, 6))]
 
 

@@ -14,12 +14,14 @@ use agc_document::rows::{
     BENCH_KEYS, DEVICE_KEYS, EXPLORED_WORKER_KEYS, NAMED_PHASE_KEYS, NAMED_TASK_KEYS, PHASE_KEYS,
     TASK_KEYS, WORKER_KEYS,
 };
-use agc_document::{Key, KeyFault, Kind as Valued, Level, Location, TextForm};
+use agc_document::{Key, KeyFault, Kind as Valued, Level, Location, TextForm, is_name, table_of};
 use agc_scenario::rows::{
     COST, COST_KEYS, EVENT_KEYS, JOB_KEYS, SCENARIO_KEYS, SECONDS, STEAL, STEAL_KEYS,
 };
 use agc_text::Field::{Number, Text};
 use agc_text::{Buffer, Field};
+use std::alloc::{AllocError, Global};
+use toml::{Table, Value};
 
 impl HasName for Key {
     fn name(self) -> &'static str {
@@ -61,7 +63,7 @@ const IN_SCRIPT: &str =
 const NO_ACTION: &str = "an action is nothing, or begins with novac, findvac, rouse or list";
 
 const NO_STEP: &str =
-    "before its last line a job asks for novac, findvac, prio, store, list or phase";
+    "before its last line a job makes requests novac, findvac, prio, store, list or phase";
 
 /// The kinds of lines that a text of this form may be, and the sentence for one that begins like
 /// none of them.
@@ -267,12 +269,44 @@ pub(crate) fn put_location(out: &mut Buffer, place: Location, name: Option<&str>
     }
 }
 
+/// The name of the table of a document in which a place is, if it has one.
+pub(crate) fn name_at(document: &Table, place: Location) -> Option<&str> {
+    let (key, number) = match place {
+        Location::Whole | Location::Value(_) | Location::Item(..) => return None,
+        Location::Table(key, k) | Location::Field(key, k, _) => (key, k),
+        Location::FieldItem(key, k, ..) | Location::Subfield(key, k, ..) => (key, k),
+    };
+    let Value::Array(tables) = document.get(key.name())? else {
+        return None;
+    };
+    match tables.get((number as usize).wrapping_sub(1))? {
+        Value::Table(table) => match table.get("name")? {
+            Value::String(name) if is_name(name.as_str()) => Some(name.as_str()),
+            _ => None,
+        },
+        _ => None,
+    }
+}
+
 /// Adds a line for each of the first twenty findings of a document, and one that counts the others.
-pub fn put_bench_messages(out: &mut Buffer, document: NamedText<'_>, findings: &Findings) {
+///
+/// # Errors
+///
+/// If memory runs out.
+pub fn put_bench_messages(
+    alloc: Global,
+    out: &mut Buffer,
+    document: NamedText<'_>,
+    findings: &Findings,
+) -> Result<(), AllocError> {
+    let table = table_of(alloc, document.text)?.ok();
     for finding in findings.list.iter().take(MOST_TOLD) {
         let (wrong, text) = (finding.wrong, finding.text.as_str());
+        let name = table
+            .as_ref()
+            .and_then(|table| name_at(table, finding.place));
         put_where(out, document.before_line, finding.line, "");
-        put_location(out, finding.place, None);
+        put_location(out, finding.place, name);
         if let Problem::Text(_) | Problem::Key(KeyFault::NoneAbove(_)) = wrong {
             put_quoted(out, text);
         }
@@ -294,4 +328,5 @@ pub fn put_bench_messages(out: &mut Buffer, document: NamedText<'_>, findings: &
     }
     let left = findings.list.len().saturating_sub(MOST_TOLD);
     put_more(out, left.saturating_add(findings.more));
+    Ok(())
 }

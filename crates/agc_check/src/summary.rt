@@ -1,11 +1,11 @@
 //! The lines of warnings, and the summary of a run in one line.
-use crate::bench::put_location;
+use crate::bench::{name_at, put_location};
 use crate::finding::line_at;
 use crate::locate::{KeyPath, spots_of, way_to};
 use crate::messages::{NONE, NamedText, put_message, put_where};
 use crate::run_counts::{RunCounts, run_requests, run_subject};
 use crate::warnings::{LOG_FULL, Warning, warnings_of};
-use agc_document::Location;
+use agc_document::table_of;
 use agc_phase::recover;
 use agc_plan::Request;
 use agc_run::Subject;
@@ -17,32 +17,12 @@ use std::alloc::{AllocError, Global};
 /// The number of requests that the log of a script holds.
 const SCRIPT_LIMIT: u64 = 1000;
 
-/// The name of the table of a scenario in which a place is, if it has one.
-fn name_at<'a>(subject: Subject<'a>, place: Location) -> Option<&'a str> {
-    let Subject::Scenario(scenario) = subject else {
-        return None;
-    };
-    let (key, number) = match place {
-        Location::Whole | Location::Value(_) | Location::Item(..) => return None,
-        Location::Table(key, k) | Location::Field(key, k, _) => (key, k),
-        Location::FieldItem(key, k, ..) | Location::Subfield(key, k, ..) => (key, k),
-    };
-    let place = (number as usize).wrapping_sub(1);
-    match key.name() {
-        "job" => scenario.timing().jobs().get(place)?.name(),
-        "event" => scenario.timing().all_events().get(place)?.name(),
-        "task" => scenario.row_names().get(place)?.as_str(),
-        "phase" => scenario.entry_names().get(place)?.as_str(),
-        _ => None,
-    }
-}
-
 /// Adds a line for each warning about a document, with the number of the line at which its place
 /// begins.
 fn put_warnings(
     alloc: Global,
     out: &mut Buffer,
-    (document, subject): (NamedText<'_>, Subject<'_>),
+    document: NamedText<'_>,
     warnings: &[Warning],
 ) -> Result<(), AllocError> {
     let ways: Vec<KeyPath<'_>> = warnings
@@ -50,10 +30,12 @@ fn put_warnings(
         .map(|one| way_to(one.place, None))
         .collect(alloc)?;
     let spots = spots_of(alloc, document.text, ways.as_slice())?;
+    let table = table_of(alloc, document.text)?.ok();
     for (one, spot) in warnings.iter().zip(spots.as_slice()) {
         let line = line_at(document.text, spot.at);
         put_where(out, document.before_line, line, "warning: ");
-        put_location(out, one.place, name_at(subject, one.place));
+        let name = table.as_ref().and_then(|table| name_at(table, one.place));
+        put_location(out, one.place, name);
         put_message(out, one.message);
         out.text("\n");
     }
@@ -110,7 +92,7 @@ pub fn put_report(
 ) -> Result<(), AllocError> {
     let ran = run_subject(alloc, subject)?.1;
     let warned = warnings_of(alloc, subject, &ran)?;
-    put_warnings(alloc, out, (document, subject), warned.as_slice())?;
+    put_warnings(alloc, out, document, warned.as_slice())?;
     put_summary(out, &ran, subject.bench().power());
     Ok(())
 }

@@ -33,10 +33,10 @@ fn idle_percent(ended: &EndedEra) -> u64 {
     ended.statistics.idle.saturating_mul(100) / length_of(ended).max(1)
 }
 
-/// Adds the cells of an era's row to a table. The computing that was lost, and the percentage of
-/// ticks at which no job was running, are known only if time passes by itself, and are in each
-/// table for other programs.
-pub(crate) fn fill_era(ended: &EndedEra, has_time: bool, table: &mut Table) {
+/// Adds the cells of an era's row to a table, given how many requests were made in it. The
+/// computing that was lost, and the percentage of ticks at which no job was running, are known only
+/// if time passes by itself, and are in each table for other programs.
+pub(crate) fn fill_era(ended: &EndedEra, made: u64, has_time: bool, table: &mut Table) {
     let era = &ended.statistics;
     let is_text = table.is_text();
     let row = &mut table.row;
@@ -45,6 +45,8 @@ pub(crate) fn fill_era(ended: &EndedEra, has_time: bool, table: &mut Table) {
     row.cell(left("began by", "began_by", 8), Text(begin_text(ended.by)));
     row.cell(right("lasts", "lasts", 8), Seconds(length_of(ended)));
     row.cell(right("served", "served", 8), Number(era.requests));
+    let refused = made.saturating_sub(era.requests);
+    row.cell(right("refused", "refused", 7), Number(refused));
     row.cell(right("began", "began", 5), Number(era.jobs_begun));
     row.cell(right("ended", "ended", 5), Number(era.jobs_ended));
     row.below();
@@ -56,13 +58,14 @@ pub(crate) fn fill_era(ended: &EndedEra, has_time: bool, table: &mut Table) {
     let tasks = right("most tasks", "most_tasks", 10);
     row.cell(tasks, Number(era.tasks.count));
     row.cell(right("since", "tasks_since", 7), Seconds(era.tasks.since));
-    let (no_job, lost_column) = (right("no job", "no_job", 6), right("lost", "lost", 6));
+    let no_job = right("no job", "no_job", 6);
+    let lost_time = right("lost time", "lost_time", 9);
     if has_time {
         row.percent(no_job, idle_percent(ended));
-        row.cell(lost_column, seconds(ended.lost));
+        row.cell(lost_time, seconds(ended.lost));
     } else if !is_text {
         row.option(no_job, None);
-        row.option(lost_column, None);
+        row.option(lost_time, None);
     }
     row.cell(left("ended by", "ended_by", 0), Text(end_text(ended.end)));
 }

@@ -173,7 +173,7 @@ fn fill_era(row: &mut Row, number: u64, era: &EraTime, ended: u64) {
     row.cell(right("begins", "begins", 8), Seconds(era.began));
     row.cell(right("lasts", "lasts", 8), Seconds(lasts));
     let parts = [
-        (right("computing", "computing", 9), era.computed),
+        (right("computed", "computed", 8), era.computed),
         (right("stolen", "stolen", 6), era.stolen),
         (right("idle", "idle", 6), era.idle),
     ];

@@ -1,10 +1,11 @@
 //! The keys of two documents whose values differ.
 use crate::comparing::{Part, end_key};
 use agc_document::table_of;
-use agc_table::{Column, Table, right};
-use agc_text::Field;
-use agc_text::Field::{Number, Text};
+use agc_table::{Column, Table, TableForm, right};
+use agc_text::Field::{Json, Number, Text};
+use agc_text::{Buffer, Field};
 use std::alloc::{AllocError, Global};
+use toml::value::Array;
 use toml::{Table as Document, Value};
 
 /// The keys that differ: the table for them, and the part that they are.
@@ -66,8 +67,47 @@ fn items_of(value: Option<&Value>) -> &[Value] {
     }
 }
 
+/// Adds a value as JSON. A document has neither negative numbers nor fractions nor dates.
+#[cycle(put_json)]
+fn put_json(value: &Value, buffer: &mut Buffer) {
+    match value {
+        Value::String(text) => buffer.put("\"{}\"", &[Json(text.as_str())]),
+        Value::Integer(number) => buffer.add(Number(number.unsigned_abs())),
+        Value::Boolean(is_true) => buffer.text(if *is_true { "true" } else { "false" }),
+        Value::Array(items) => put_items(items, buffer),
+        Value::Table(table) => put_members(table, buffer),
+        Value::Float(_) | Value::Datetime(_) => buffer.text("null"),
+    }
+}
+
+/// Adds an array as JSON.
+#[cycle(put_json)]
+fn put_items(items: &Array, buffer: &mut Buffer) {
+    let mut before = "";
+    buffer.text("[");
+    for item in items {
+        buffer.text(before);
+        put_json(item, buffer);
+        before = ",";
+    }
+    buffer.text("]");
+}
+
+/// Adds a table as JSON.
+#[cycle(put_json)]
+fn put_members(table: &Document, buffer: &mut Buffer) {
+    let mut before = "";
+    buffer.text("{");
+    for (key, member) in table.iter() {
+        buffer.put("{}\"{}\":", &[Text(before), Json(key.as_str())]);
+        put_json(member, buffer);
+        before = ",";
+    }
+    buffer.text("}");
+}
+
 impl Keys<'_> {
-    /// Adds a value; one that is neither a number nor a text as TOML has it.
+    /// Adds a value; one that is neither a number nor a text as TOML or JSON has it.
     fn fill_value(&mut self, column: Column<'_>, value: Option<&Value>) -> Result<(), AllocError> {
         let row = &mut self.table.row;
         match value {
@@ -76,6 +116,10 @@ impl Keys<'_> {
                 row.cell(column, Number(number.unsigned_abs()));
             }
             Some(Value::String(text)) => row.cell(column, Text(text.as_str())),
+            Some(other) if self.table.form == TableForm::JsonLines => {
+                put_json(other, &mut row.text);
+                row.end_plain(column);
+            }
             Some(other) => {
                 let text = format!(in self.alloc; "{other}")?;
                 row.cell(column, Text(text.as_str()));

@@ -6,46 +6,39 @@ use agc_run::{Run, Subject};
 use agc_session::RunFault;
 use agc_stats::{EndedEra, EraBoundary, RunObserver, RunStatistics, run_to_end};
 use agc_table::{Table, TableForm};
-use agc_text::Field::Number;
 use std::alloc::Global;
 use std::io::Write;
 
-/// A table of eras, each of which is written as soon as it has ended; and whether time passes by
-/// itself.
+/// A table of eras, each of which is written as soon as it has ended; whether time passes by
+/// itself; and how many requests were made since the last era ended.
 #[derive(Drop)]
 struct EraLines<'a, W> {
     has_time: bool,
+    made: u64,
     table: &'a mut Table,
     writer: &'a mut W,
 }
 
+impl<W> EraLines<'_, W> {
+    /// Adds the row of an era that has ended.
+    fn put(&mut self, era: &EndedEra) {
+        fill_era(era, self.made, self.has_time, self.table);
+        self.table.end_row();
+        self.made = 0;
+    }
+}
+
 impl<W: Write> RunObserver for EraLines<'_, W> {
     fn note(&mut self, _request: &Request, ended: Option<EndedEra>) -> Result<(), RunFault> {
+        self.made = self.made.saturating_add(1);
         if let Some(era) = ended {
-            fill_era(&era, self.has_time, self.table);
-            self.table.end_row();
+            self.put(&era);
         }
         send_table(self.table, self.writer)
     }
 }
 
-/// Adds the row of the last era and, unless it is for other programs, how many requests were
-/// refused.
-fn put_last(table: &mut Table, statistics: &RunStatistics, has_time: bool) {
-    let last = statistics.present_era(EraBoundary::End, 0);
-    fill_era(&last, has_time, table);
-    table.end_row();
-    match statistics.refused {
-        _ if !table.is_text() => {}
-        0 => {}
-        1 => table.lines.text("1 request was refused\n"),
-        count => table
-            .lines
-            .put("{} requests were refused\n", &[Number(count)]),
-    }
-}
-
-/// Writes the heading, the row of each era, and the lines after them.
+/// Writes the heading, and the row of each era.
 fn put_eras<W: Write>(
     run: &mut Run<'_>,
     has_time: bool,
@@ -53,16 +46,17 @@ fn put_eras<W: Write>(
     writer: &mut W,
 ) -> Result<(), RunFault> {
     let none = RunStatistics::new(run.machine()).present_era(EraBoundary::End, 0);
-    fill_era(&none, has_time, table);
+    fill_era(&none, 0, has_time, table);
     table.end_heading();
     let mut eras = EraLines {
         has_time,
+        made: 0,
         table,
         writer,
     };
     let statistics = run_to_end(run, &mut eras)?;
-    put_last(table, &statistics, has_time);
-    send_table(table, writer)
+    eras.put(&statistics.present_era(EraBoundary::End, 0));
+    send_table(eras.table, eras.writer)
 }
 
 /// Runs a bench or a scenario, and writes for each era when it began and why, how long it lasted,

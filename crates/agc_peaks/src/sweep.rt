@@ -100,14 +100,16 @@ pub(crate) fn values_of(axes: &[Axis<'_>], run: u64) -> [u64; 2] {
 /// Adds the values of a run, and its peaks, to a row.
 fn fill(row: &mut Row, axes: &[Axis<'_>], values: &[u64], peaks: &RunPeaks) {
     for (axis, value) in axes.iter().zip(values.iter()) {
-        let width = width_of(axis.name).max(10);
+        let width = width_of(axis.name).max(8);
         row.cell(right(axis.name, axis.name, width), Field::Number(*value));
     }
     let first = peaks.first_alarm;
     let alarm = first.map(|first| Text(alarm_code(first.alarm)));
-    row.option(left("alarm", "alarm", 5), alarm);
-    row.option(right("at", "at", 9), first.map(|first| Seconds(first.time)));
+    row.option(left("first alarm", "first_alarm", 11), alarm);
+    let time = right("first alarm at", "first_alarm_at", 14);
+    row.option(time, first.map(|first| Seconds(first.time)));
     row.cell(right("alarms", "alarms", 6), Field::Number(peaks.alarms));
+    row.below();
     row.cell(
         right("most sets", "most_sets", 9),
         Field::Number(peaks.sets),

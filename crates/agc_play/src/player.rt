@@ -12,7 +12,7 @@ use agc_plan::{Reply, Request};
 use agc_run::{Event, ObservedRun, PendingRequests, Run, Scene};
 use agc_session::{RunFault, Source, Walk, machine_of};
 use agc_table::TableForm;
-use agc_text::Field::{Number, Octal, Priority, Text};
+use agc_text::Field::{Number, Octal, Priority, Seconds, Text};
 use agc_text::{Buffer, Output};
 use agc_trace::{Columns, Rows, TraceFormat, TraceOptions};
 use std::alloc::{AllocError, Global};
@@ -268,7 +268,7 @@ impl Player {
         } = self.last;
         buffer.put(
             "after request {}: time {} of the era, {} in all\n",
-            &[Number(number), Number(time), Number(total)],
+            &[Number(number), Seconds(time), Seconds(total)],
         );
         let scene = self.run.scene();
         put_jobs(buffer, &scene);

@@ -24,9 +24,9 @@ const GREETING: &str = "Type a request, such as findvac 20 02000 00005, or help.
 const HELP: &str = "\
 A line is a request, as in a script, or one of these:
     tick N     N ticks; shows those in which something happened, and the last
-    undo       takes back what the last line asked
+    undo       takes back the requests of the last line
     show       shows the state: jobs, areas, tasks, phases, FAILREG, the log
-    save NAME  writes a file: a bench that asks all that was asked
+    save NAME  writes a file: a bench of all requests that were made
     save! NAME the same, over a file that is there already
     help, ?    shows this
     quit, q    ends, as exit and Ctrl-D do
@@ -178,8 +178,8 @@ impl<'a> PlaySession<'a> {
         let count = self.requests.len();
         let words = match count {
             0 => return Ok(()),
-            1 => "{} request was asked by the bench\n",
-            _ => "{} requests were asked by the bench\n",
+            1 => "{} request was made by the bench\n",
+            _ => "{} requests were made by the bench\n",
         };
         self.buffer.put(words, &[Number(count as u64)]);
         self.put_state();
@@ -254,7 +254,7 @@ impl<'a> PlaySession<'a> {
         }
         self.steps.pop();
         let words = match taken {
-            0 => "nothing was asked that could be taken back\n",
+            0 => "no request was made that could be taken back\n",
             1 => "{} request is taken back\n",
             _ => "{} requests are taken back\n",
         };

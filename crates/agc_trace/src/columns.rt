@@ -5,8 +5,8 @@ use agc_run::Subject;
 use agc_scenario::Scenario;
 use agc_session::{Source, count_requests, line_name};
 use agc_table::width_of;
-use agc_text::Field::{Number, Octal, Seconds, Text};
-use agc_text::{Buffer, Field};
+use agc_text::Buffer;
+use agc_text::Field::{Number, Octal, Text};
 use std::alloc::{AllocError, Global};
 
 /// How many letters of a name are shown at most.
@@ -15,12 +15,11 @@ const MOST_LETTERS: usize = 24;
 /// The width of the column that says who asks, unless a name in it is longer.
 const SOURCE_WIDTH: usize = 9;
 
-/// The columns of rows: the width of the one that says who asks, if there is one; whether times are
-/// in seconds; and the names that are shown.
+/// The columns of rows: the width of the one that says who asks, if there is one; and the names
+/// that are shown.
 #[derive(Drop)]
 pub struct Columns {
     pub(crate) source: Option<usize>,
-    pub(crate) has_seconds: bool,
     pub(crate) names: Names,
 }
 
@@ -47,25 +46,22 @@ impl Columns {
             } else {
                 None
             },
-            has_seconds: false,
             names: Names::none(alloc),
         }
     }
 
-    /// The columns of a scenario: one of them says who asks, its names are shown, and times are in
-    /// seconds.
+    /// The columns of a scenario: one of them says who asks, and its names are shown.
     fn of_scenario(alloc: Global, scenario: &Scenario) -> Result<Columns, AllocError> {
         let names = Names::of_scenario(alloc, scenario)?;
         let events = scenario.timing().all_events().len();
         Ok(Columns {
             source: Some(source_width(&names, events)),
-            has_seconds: true,
             names,
         })
     }
 
     /// The columns of a bench, where one says who asks if several do; or of a scenario, where one
-    /// always does, times are in seconds, and names are shown.
+    /// always does, and names are shown.
     pub(crate) fn of(alloc: Global, subject: Subject<'_>) -> Result<Columns, AllocError> {
         match subject {
             Subject::Bench(bench) => {
@@ -102,15 +98,6 @@ impl Columns {
                 None => buffer.fill("event ", Number(event.saturating_add(1) as u64)),
                 Some(name) => put_joined(buffer, name),
             },
-        }
-    }
-
-    /// A number of ticks, as a time.
-    pub(crate) fn time(&self, ticks: u64) -> Field<'static> {
-        if self.has_seconds {
-            Seconds(ticks)
-        } else {
-            Number(ticks)
         }
     }
 

@@ -102,10 +102,10 @@ fn fill_values(row: &mut Row, columns: &Columns, scene: &Scene) {
     };
     row.option(left("", "running", 0), number);
     row.option(left("", "priority", 0), priority);
-    row.cell(left("", "sets", 0), Number(sets));
-    row.cell(left("", "areas", 0), Number(areas));
+    row.cell(left("", "sets_used", 0), Number(sets));
+    row.cell(left("", "areas_used", 0), Number(areas));
     let tasks = Number(scene.waits().len() as u64);
-    row.cell(left("", "tasks", 0), tasks);
+    row.cell(left("", "tasks_waiting", 0), tasks);
     for (k, key) in SETS.iter().enumerate() {
         let seat = scene.seats().get(k).copied().flatten();
         fill_job(row, columns, key, seat);
@@ -195,18 +195,8 @@ impl Page {
         } else {
             row.cell(left("no", "no", 8), Number(number));
         }
-        self.fill_time("time", time);
-        self.fill_time("total", total);
-    }
-
-    /// Adds a number of ticks, as a time.
-    fn fill_time(&mut self, name: &'static str, ticks: u64) {
-        let time = if self.table.is_text() {
-            self.columns.time(ticks)
-        } else {
-            Seconds(ticks)
-        };
-        self.table.row.cell(left(name, name, 8), time);
+        row.cell(left("time", "time", 8), Seconds(time));
+        row.cell(left("total", "total", 8), Seconds(total));
     }
 
     /// Adds the cells in front of the tables.

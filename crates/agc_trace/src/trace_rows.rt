@@ -32,9 +32,9 @@ pub struct TraceOptions {
     pub form: TraceFormat,
     /// Only those that raised an alarm.
     pub alarms: bool,
-    /// Only those from here on, in hundredths: of a second in a scenario, or else of a request.
+    /// Only those from this centisecond on.
     pub from: Option<u64>,
-    /// Only those up to here.
+    /// Only those up to this one.
     pub to: Option<u64>,
     /// Quiet requests, after which only the time has changed, are counted together if they follow
     /// each other. In forms without lines they are left out.
@@ -42,11 +42,11 @@ pub struct TraceOptions {
 }
 
 impl TraceOptions {
-    /// Whether the request at this place has a row, given whether it raised an alarm.
-    fn tells(&self, place: u64, is_alarmed: bool) -> bool {
+    /// Whether a request at this centisecond has a row, given whether it raised an alarm.
+    fn tells(&self, time: u64, is_alarmed: bool) -> bool {
         (is_alarmed || !self.alarms)
-            && self.from.unwrap_or(0) <= place
-            && place <= self.to.unwrap_or(u64::MAX)
+            && self.from.unwrap_or(0) <= time
+            && time <= self.to.unwrap_or(u64::MAX)
     }
 }
 
@@ -173,12 +173,7 @@ impl Rows {
     /// is chosen.
     pub fn add(&mut self, run: &ObservedRun<'_>, source: Source, event: &Event) {
         self.count_refused(&event.answer);
-        let place = if self.page.columns.has_seconds {
-            event.total
-        } else {
-            event.number.saturating_mul(100)
-        };
-        if self.choice.tells(place, event.alarm().is_some()) {
+        if self.choice.tells(event.total, event.alarm().is_some()) {
             let before = self.before.as_ref();
             if let Some(quiet) = before.and_then(|before| quiet_of(before, event)) {
                 self.put_quiet(quiet);

@@ -67,8 +67,8 @@ const TRACE: CommandSpec = CommandSpec {
     about: "Writes a line for each request, with the tables",
     example: "\
 no           the request's number, with ! if it was refused
-time, total  seconds, or ticks of a bench: of the era, and in all
-by           who asks, if several do
+time, total  seconds of the era, and in all
+by           who makes the request, if several do
 running      the job that runs
 sets         the jobs in core sets, as job/priority: in brackets if asleep,
              after > if NEWJOB names it
@@ -88,13 +88,9 @@ Example: agc_watch trace --alarms examples/no-vac-area.toml",
         Value(
             "from",
             "N",
-            "Begins at second N; in a bench or a script at request N",
+            "Begins at second N, which may have two decimals",
         ),
-        Value(
-            "to",
-            "N",
-            "Ends at second N; in a bench or a script at request N",
-        ),
+        Value("to", "N", "Ends at second N, which may have two decimals"),
         CSV,
         JSONL,
         WIDTH,
@@ -188,12 +184,13 @@ const PEAKS: CommandSpec = CommandSpec {
     example: "\
 era, begins         the era's number, and the second at which it began
 began by, ended by  why: the start or the end, an alarm or a restart
-lasts, served       its seconds, and how many requests were served in it
+lasts               its seconds
+served, refused     how many requests were served in it, and refused
 began, ended        how many jobs were established in it, and ended
 most sets, since    the most core sets in use at once, and the second since
                     which; then those of VAC areas and tasks
 no job              the percentage of its ticks at which no job was running
-lost                the seconds that jobs had computed that its end lost
+lost time           the seconds that jobs had computed that its end lost
 
 Example: agc_watch peaks examples/no-vac-area.toml",
     arguments: &[FILE, SCRIPT, CSV, JSONL, WIDTH],

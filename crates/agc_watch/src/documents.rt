@@ -89,13 +89,21 @@ pub(crate) fn say_run_once(rt: &HostRuntime, input: NamedText<'_>, explored: &Ex
     }
 }
 
+/// The messages about these findings of an input.
+fn messages_of(
+    alloc: Global,
+    input: NamedText<'_>,
+    found: &Findings,
+) -> Result<Buffer, AllocError> {
+    let mut messages = Buffer::new(alloc)?;
+    put_bench_messages(alloc, &mut messages, input, found)?;
+    Ok(messages)
+}
+
 /// Stops for these findings of an input.
 fn refusal(alloc: Global, input: NamedText<'_>, found: &Findings) -> Stop {
-    match Buffer::new(alloc) {
-        Ok(mut messages) => {
-            put_bench_messages(&mut messages, input, found);
-            stop_for(messages)
-        }
+    match messages_of(alloc, input, found) {
+        Ok(messages) => stop_for(messages),
         Err(error) => Stop::from(error),
     }
 }

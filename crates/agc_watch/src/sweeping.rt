@@ -87,8 +87,12 @@ fn axis_of<'a>(alloc: Global, scenario: &Scenario, values: Values<'a>) -> Result
                     step,
                 });
             }
-            let wrong = if from < least { from } else { to };
-            format!(in alloc; "'{key}' may be {least} to {most}, not {wrong}")?
+            let wrong = if from < least {
+                "FROM is too small"
+            } else {
+                "TO is too large"
+            };
+            format!(in alloc; "{wrong}: '{key}' may be {least} to {most}")?
         }
     };
     Err(refused_words(alloc, "sweep", reason.as_str()))

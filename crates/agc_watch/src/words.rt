@@ -99,10 +99,12 @@ pub(crate) struct Invocation<'a> {
     pub has_progress: bool,
 }
 
-/// The number that a text is; None if it isn't all digits, or is too great.
+/// The number that a text is, or the greatest, if it is greater than that; None if it isn't all
+/// digits.
 fn number_of(digits: &str) -> Option<u64> {
     let is_decimal = digits.as_bytes().iter().all(u8::is_ascii_digit);
-    digits.parse::<u64>().ok().filter(|_number| is_decimal)
+    let number = digits.parse::<u64>().unwrap_or(u64::MAX);
+    (is_decimal && !digits.is_empty()).then_some(number)
 }
 
 /// A number of columns.
@@ -251,9 +253,9 @@ impl<'a, 'b> Words<'a, 'b> {
     /// The number of requests between two ticks.
     fn ticks(&mut self) -> TickBounds {
         let requests = |word: &str| u16::try_from(number_of(word)?).ok();
-        let reason = "--least wants a whole number up to 65535";
+        let reason = "--least wants a whole number from 0 to 65535";
         let least = self.value("least", reason, requests).unwrap_or(0);
-        let reason = "--most wants a whole number up to 65535";
+        let reason = "--most wants a whole number from 0 to 65535";
         let most = self.value("most", reason, requests);
         let is_right = least <= most.unwrap_or(u16::MAX);
         self.check(is_right, "--least is beyond --most", None);
@@ -263,7 +265,7 @@ impl<'a, 'b> Words<'a, 'b> {
     /// Reads the words after `explore`.
     fn explore(&mut self) -> ExploreOptions {
         let some = |word: &str| number_of(word).filter(|states| *states > 0);
-        let reason = "--states wants a whole number from 1 on, below 2^64";
+        let reason = "--states wants a whole number from 1 on";
         let states = self.value("states", reason, some).unwrap_or(STATES);
         let bench = self.value("bench", "--bench wants 1201, 1202 or 1203", alarm_of);
         let alarm = self.value("alarm", "--alarm wants 1201, 1202 or 1203", alarm_of);

@@ -1,21 +1,23 @@
 //! The work of each command on its input.
 use crate::checking::check;
-use crate::documents::{RunnableDocument, document_in, explored_in, say_run_once, scenario_in};
+use crate::documents::{document_in, explored_in, say_run_once, scenario_in};
 use crate::files::text_of;
 use crate::page::{PageDocument, PageView, put_page};
 use crate::program::Console;
 use crate::stops::{Stop, UNDECIDED, YES, stop_with};
 use crate::sweeping::write_sweep;
-use crate::words::{Input as Source, Invocation, Subcommand, refused_words};
+use crate::words::{Input as Source, Invocation, Subcommand};
 use crate::workbench::Workbench;
 use agc_check::{ExploredBench, NamedText};
 use agc_explore::{Exploration, ExploreOptions, ReachStatus, explore, with_endless};
 use agc_peaks::{RunSummary, put_differences, scenario_bench, summary_of, write_jobs, write_peaks};
 use agc_plan::Alarm;
 use agc_play::{PlayFault, PlayOptions, play};
+use agc_run::Subject;
+use agc_session::RunFault;
 use agc_table::TableForm;
 use agc_text::{MOST_BYTES, alarm_code};
-use agc_trace::{TraceOptions, trace};
+use agc_trace::trace;
 use std::alloc::Global;
 use std::io::{Input, Write};
 
@@ -41,36 +43,16 @@ fn write_page(
     }
 }
 
-/// Whether this is no number of a request, in hundredths of one.
-fn is_part(place: Option<u64>) -> bool {
-    place.is_some_and(|place| place % 100 != 0)
-}
-
-/// Refuses a part of a request's number in a bench.
-fn check_places(
-    alloc: Global,
-    document: &RunnableDocument,
-    options: TraceOptions,
-) -> Result<(), Stop> {
-    let is_bench = matches!(document, RunnableDocument::Bench(_));
-    if is_bench && (is_part(options.from) || is_part(options.to)) {
-        let reason = "in a bench or a script --from and --to want the number of a request";
-        return Err(refused_words(alloc, "trace", reason));
-    }
-    Ok(())
-}
-
 /// Writes the trace, the peaks or the jobs of a bench or a scenario.
 fn write_run(
     console: &mut Console<'_>,
     asked: Subcommand<'_>,
-    document: &RunnableDocument,
-) -> Result<(), Stop> {
-    let (alloc, subject) = (console.rt.alloc(), document.subject());
+    subject: Subject<'_>,
+) -> Result<(), RunFault> {
+    let alloc = console.rt.alloc();
     let (progress, output) = (&mut console.progress, &mut console.output);
     match asked {
         Subcommand::Trace(options) => {
-            check_places(alloc, document, options)?;
             let _run = trace(alloc, subject, options, progress, output)?;
         }
         Subcommand::Jobs(form, eras) => write_jobs(alloc, subject, (form, eras), output)?,
@@ -87,9 +69,9 @@ fn show_run(
     input: NamedText<'_>,
 ) -> Result<u8, Stop> {
     let document = document_in(console.rt, input)?;
-    match write_run(console, asked, &document) {
+    match write_run(console, asked, document.subject()) {
         Ok(()) => Ok(0),
-        Err(stop) => Err(stop),
+        Err(fault) => Err(Stop::from(fault)),
     }
 }
 
