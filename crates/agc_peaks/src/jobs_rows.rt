@@ -15,50 +15,12 @@ fn seconds_up(hundredths: u64) -> Field<'static> {
     Seconds(hundredths.saturating_add(99) / 100)
 }
 
-/// Means over the jobs of an address, in hundredths of a centisecond: how long they took, and how
-/// much of that they computed, waited and slept.
-#[derive(Clone, Copy)]
-struct MeanTimes {
-    response: u64,
-    computed: u64,
-    waited: u64,
-    slept: u64,
-}
-
-/// The mean of an address's jobs that ended; None if none did.
-fn mean_of(row: &AddressStatistics) -> Option<MeanTimes> {
-    let count = row.responses.len() as u64;
-    if count == 0 {
-        return None;
-    }
-    let mut sum: u64 = 0;
-    for response in row.responses.iter() {
-        sum = sum.saturating_add(*response);
-    }
-    let waited = sum
-        .saturating_sub(row.computed_to_end)
-        .saturating_sub(row.slept_to_end);
-    Some(MeanTimes {
-        response: sum / count,
-        computed: row.computed_to_end / count,
-        waited: waited / count,
-        slept: row.slept_to_end / count,
-    })
-}
-
-/// The least of the times, which are in order, that this percentage of them doesn't exceed; None if
-/// there are none.
-fn percentile(times: &[u64], percent: usize) -> Option<u64> {
-    let rank = times.len().saturating_mul(percent).saturating_add(99) / 100;
-    times.get(rank.saturating_sub(1)).copied()
-}
-
 /// Adds to a row how many jobs of an address there were, how long they took, and how much of it
 /// they computed, waited and slept, and their share of the time that the run took, if that is
 /// known. Response times that jobs don't exceed are rounded up, so that a late job is seen to be.
 pub(crate) fn fill_times(row: &mut Row, jobs: &AddressStatistics, time: Option<u64>) {
     let times = jobs.responses.as_slice();
-    let mean = mean_of(jobs);
+    let mean = jobs.mean_times();
     let (least, most) = (times.first().copied(), times.last().copied());
     row.cell(right("began", "began", 5), Number(jobs.released));
     row.cell(right("ended", "ended", 5), Number(times.len() as u64));
@@ -67,7 +29,7 @@ pub(crate) fn fill_times(row: &mut Row, jobs: &AddressStatistics, time: Option<u
     row.option(right("least", "least", 7), least.map(seconds));
     let response = mean.map(|mean| seconds(mean.response));
     row.option(right("mean", "mean", 7), response);
-    let percentile = percentile(times, 95).map(seconds_up);
+    let percentile = jobs.percentile(95).map(seconds_up);
     row.option(right("95%", "p95", 7), percentile);
     row.option(right("most", "most", 7), most.map(seconds_up));
     row.below();

@@ -1,4 +1,5 @@
 mod Counting
+mod EraTimes
 mod Eras
 mod JobRuns
 mod Lives

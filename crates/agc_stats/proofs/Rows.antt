@@ -2,6 +2,7 @@
 use Rattle.std.proofs.Common.{◌≡◌, ◌≢◌, ◌⊎◌, ℕ, ◌+◌, ◌<◌, ◌≤◌, ◌==◌, nat_lt, Bool, true, false, cond, List, [], ◌∷◌, ◌++◌, length, map, get_or, Option, Some, None, refl, sym, ap, subst, ◌∙◌, append-nil, inl, inr, arith}
 use Rattle.std.specs.Prelude.{◌||◌, slice_set}
 use Rattle.std.specs.List.{AllPairs, fold, list_any, position, position_or_len}
+use Rattle.std.specs.List.Sorted.{IsNonDecreasing}
 use Rattle.std.proofs.Math.Seq.{map-set_same}
 use Rattle.std.proofs.lemmas.Bool.{cases_lt, eq-eqb, eqb-true, ne_eqb}
 use Rattle.std.proofs.lemmas.Bool.Decides.{eqb_tells}
@@ -137,6 +138,47 @@ changed deadlines releases those lives these rows at place old new are found is 
         subst (IsRow deadlines those these) (sym (get_or-set_other rows place k new d w.1))
         (row_kept deadlines releases those lives these (get_or rows k d) (same (get_or rows k d).at differs) (alike (get_or rows k d).at differs) (are.each k d lt))
 
+-- one row changes that has the same releases and lives
+pub row_changed : (deadlines : ℕ → Option ℕ) (releases : List ℕ) (lives : List JobLife) (rows : List AddressStatistics) (place : ℕ) (old new : AddressStatistics)
+    → AreRows deadlines releases lives rows → place < length rows → old ≡ get_or rows place old → new.at ≡ old.at
+    → (IsRow deadlines releases lives old → IsRow deadlines releases lives new)
+    → AreRows deadlines releases lives (slice_set rows place new)
+row_changed deadlines releases lives rows place old new are within is same_at turns =
+    let mapped : map (λ (r : AddressStatistics). r.at) (slice_set rows place new) ≡ map (λ (r : AddressStatistics). r.at) rows =
+    map-set_same (λ (r : AddressStatistics). r.at) rows place new old (same_at ∙ ap (λ (r : AddressStatistics). r.at) is) in
+    record {
+      addresses_are = mapped ∙ are.addresses_are;
+      each = λ k d lt. each_at k d (subst (λ (n : ℕ). k < n) (length-set rows place new) lt) (eqb_tells k place);
+      others = λ a none. are.others a (any_at a rows ∙ ap (list_any (λ (x : ℕ). x == a)) (sym mapped) ∙ sym (any_at a (slice_set rows place new)) ∙ none);
+    }
+  where
+    each_at : (k : ℕ) (d : AddressStatistics) → k < length rows → ((k == place) ≡ true × k ≡ place) ⊎ ((k == place) ≡ false × k ≢ place) → IsRow deadlines releases lives (get_or (slice_set rows place new) k d)
+    each_at k d lt (inl w) =
+        subst (λ (j : ℕ). IsRow deadlines releases lives (get_or (slice_set rows place new) j d)) (sym w.1)
+        (subst (IsRow deadlines releases lives) (sym (get_or-set_same rows place new d within))
+        (turns (subst (IsRow deadlines releases lives) (sym is) (are.each place old within))))
+    each_at k d lt (inr w) =
+        subst (IsRow deadlines releases lives) (sym (get_or-set_other rows place k new d w.1)) (are.each k d lt)
+
+-- the response times of one row more are in order
+pub sorted_more : (rows : List AddressStatistics) (place : ℕ) (new : AddressStatistics) → place < length rows
+    → ((k : ℕ) (d : AddressStatistics) → k < place → IsNonDecreasing (get_or rows k d).responses.items) → IsNonDecreasing new.responses.items
+    → (k : ℕ) (d : AddressStatistics) → k < place + 1 → IsNonDecreasing (get_or (slice_set rows place new) k d).responses.items
+sorted_more rows place new within before its k d lt = go (eqb_tells k place) where
+  go : ((k == place) ≡ true × k ≡ place) ⊎ ((k == place) ≡ false × k ≢ place) → IsNonDecreasing (get_or (slice_set rows place new) k d).responses.items
+  go (inl w) =
+      subst (λ (j : ℕ). IsNonDecreasing (get_or (slice_set rows place new) j d).responses.items) (sym w.1)
+      (subst (λ (r : AddressStatistics). IsNonDecreasing r.responses.items) (sym (get_or-set_same rows place new d within)) its)
+  go (inr w) =
+      let differs : k ≢ place = w.1 in
+      subst (λ (r : AddressStatistics). IsNonDecreasing r.responses.items) (sym (get_or-set_other rows place k new d differs)) (before k d (below differs))
+    where
+      below : k ≢ place → k < place
+      below differs = elim (cases_lt k place) [
+        | inl low ↦ low
+        | inr high ↦ absurd (differs (omega arith))
+      ]
+
 -- one row comes
 pub joined : (deadlines : ℕ → Option ℕ) (releases : List ℕ) (lives : List JobLife) (rows : List AddressStatistics) (at : ℕ) (new : AddressStatistics)
     → AreRows deadlines releases lives rows → position (λ (r : AddressStatistics). r.at == at) rows ≡ None → new.at ≡ at
@@ -188,7 +230,7 @@ released_row deadlines releases lives at old new more at_is is = subst (IsRow de
     alive_is = is.lives_are.alive_is;
     preempted_is = is.lives_are.preempted_is;
     computed_is = is.lives_are.computed_is;
-    responses_is = is.lives_are.responses_is;
+    responses_are = is.lives_are.responses_are;
     computed_to_end_is = is.lives_are.computed_to_end_is;
     slept_to_end_is = is.lives_are.slept_to_end_is;
     missed_is = is.lives_are.missed_is;

@@ -1,9 +1,12 @@
 -- The statistics of the lives of an address's jobs, and of all addresses.
-use Rattle.std.specs.Prelude.{◌≡◌, ℕ, ◌+◌, ◌-◌, ◌==◌, nat_lt, min, Bool, true, false, List, []}
-use Rattle.std.specs.Prelude.{◌∷◌, ◌++◌, map, filter, if◌then◌else◌, Option, Some, None, is_some}
+use Rattle.std.specs.Prelude.{◌≡◌, ℕ, ◌+◌, ◌-◌, ◌*◌, ◌/◌, ◌==◌, nat_lt, min, Bool, true, false}
+use Rattle.std.specs.Prelude.{List, [], ◌∷◌, ◌++◌, map, filter, length, slice_get}
+use Rattle.std.specs.Prelude.{if◌then◌else◌, Option, Some, None, is_some}
 use Rattle.std.specs.List.{All, count_by, fold, list_any, sum_by}
+use Rattle.std.specs.List.Sorted.{IsPermutation}
 use Rattle.agc_stats.specs.Eras.{counted}
 use Rattle.agc_stats.specs.declared.address_statistics.AddressStatistics.{AddressStatistics}
+use Rattle.agc_stats.specs.declared.address_statistics.MeanTimes.{MeanTimes}
 use Rattle.agc_stats.specs.declared.live_jobs.LifeEnd.{LifeEnd}
 use Rattle.agc_stats.specs.declared.live_jobs.LifeEnd.TheVariants.{Alive, Ended, Lost}
 use Rattle.agc_stats.specs.declared.live_jobs.JobLife.{JobLife}
@@ -49,7 +52,7 @@ pub record IsAddress (lives : List JobLife) (row : AddressStatistics) : Type 0 w
   pub alive_is : row.alive ≡ counted (count_by (is_end Alive) lives)
   pub preempted_is : row.preempted ≡ counted (sum_by (λ life. life.job.preempted) lives)
   pub computed_is : row.computed ≡ counted (sum_by (λ life. life.job.computed) lives)
-  pub responses_is : row.responses.items ≡ responses_of lives
+  pub responses_are : IsPermutation (responses_of lives) row.responses.items
   pub computed_to_end_is : row.computed_to_end
       ≡ counted (sum_by (λ life. if is_end Ended life then life.job.computed else 0) lives)
   pub slept_to_end_is : row.slept_to_end
@@ -57,6 +60,30 @@ pub record IsAddress (lives : List JobLife) (row : AddressStatistics) : Type 0 w
   pub missed_is : row.missed
       ≡ counted (count_by (λ life. is_some (missed_by row.deadline life)) lives)
   pub first_missed_is : row.first_missed ≡ first_missed row.deadline lives
+
+-- the means over the jobs of an address that ended, if one did: of their response times, and of what
+-- they computed, slept, and waited in the rest
+abbrev pub total : List ℕ → ℕ
+total times = counted (sum_by (λ time. time) times)
+
+abbrev pub mean_of : ℕ → ℕ → ℕ → ℕ → MeanTimes
+mean_of count responses computed slept = record {
+  response = responses / count;
+  computed = computed / count;
+  waited = ((responses - computed) - slept) / count;
+  slept = slept / count;
+}
+
+abbrev pub mean_times : AddressStatistics → Option MeanTimes
+mean_times row =
+    let times = row.responses.items in
+    if length times == 0 then None
+    else Some (mean_of (length times) (total times) row.computed_to_end row.slept_to_end)
+
+-- of times in order the one of the nearest rank: the first that so many percent of them don't
+-- exceed
+abbrev pub nearest_rank : ℕ → List ℕ → Option ℕ
+nearest_rank percent times = slice_get times (counted (counted (length times * percent) + 99) / 100 - 1)
 
 -- each address once, in the order in which the first of its jobs was released
 abbrev pub noted : List ℕ → ℕ → List ℕ

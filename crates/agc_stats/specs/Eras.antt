@@ -63,12 +63,16 @@ pub record IsEra (began : ℕ) (first : Occupancy) (records : List ServedRequest
   pub tasks_is : era.tasks ≡ peak_of (levels (λ o. o.tasks) began first records)
   pub idle_is : era.idle ≡ counted (count_by is_idle records)
 
--- the use of an era's time, which passed from one request to the next
-pub record IsEraTime (began : ℕ) (passed : List Elapsed) (era : EraTime) : Type 0 where
-  pub began_is : era.began ≡ began
-  pub computed_is : era.computed ≡ counted (sum_by (λ e. e.computed) passed)
-  pub stolen_is : era.stolen ≡ counted (sum_by (λ e. e.stolen) passed)
-  pub idle_is : era.idle ≡ counted (sum_by (λ e. e.idle) passed)
+-- how an era's time was used: all that passed from one of its requests to the next
+abbrev pub used_in : EraTime → Elapsed
+used_in era = record { computed = era.computed; stolen = era.stolen; idle = era.idle }
+
+abbrev pub all_used : List Elapsed → Elapsed
+all_used passed = record {
+  computed = counted (sum_by (λ e. e.computed) passed);
+  stolen = counted (sum_by (λ e. e.stolen) passed);
+  idle = counted (sum_by (λ e. e.idle) passed);
+}
 
 -- for the proofs: a peak, if there is one more level
 abbrev pub higher : ℕ → ℕ → Peak → Peak

@@ -1,6 +1,6 @@
 -- The statistics of a run's jobs.
 use Rattle.std.specs.Borrow.{Bor}
-use Rattle.std.specs.Prelude.{◌≡◌, ℕ, ◌+◌, ◌*◌, ◌==◌, ◌<◌, ◌≤◌, Bool, List, [], ◌∷◌, ◌++◌, length}
+use Rattle.std.specs.Prelude.{◌≡◌, ℕ, ◌+◌, ◌*◌, ◌==◌, ◌<◌, ◌≤◌, Bool, true, false, List, [], ◌∷◌, ◌++◌, length}
 use Rattle.std.specs.Prelude.{Option, Some, None, option_map, replicate, slice_index_or}
 use Rattle.std.specs.Prelude.{if◌then◌else◌}
 use Rattle.std.specs.List.{filter_map, find, range_with_len}
@@ -8,7 +8,7 @@ use Rattle.std.specs.Option.{option_and_then}
 use Rattle.agc_clock.specs.declared.elapsed.Elapsed.{Elapsed}
 use Rattle.agc_scenario.specs.Scenarios.{Timed, TimedJob}
 use Rattle.agc_stats.specs.Addresses.{AreRows}
-use Rattle.agc_stats.specs.Eras.{counted}
+use Rattle.agc_stats.specs.Eras.{all_used, counted, used_in}
 use Rattle.agc_stats.specs.Lives.{alive_job, gone, lives, release_in, releases}
 use Rattle.agc_stats.specs.declared.job_statistics.JobStatistics.{JobStatistics}
 use Rattle.agc_stats.specs.declared.job_statistics.PassedTime.{PassedTime}
@@ -76,6 +76,17 @@ pub record AreJobs (history : List Snapshot) (s : JobStatistics) : Type 0 where
 pub record AreFollowed (history : List Snapshot) (s : JobStatistics) : Type 0 where
   pub jobs_are : AreJobs history s
   pub instant_is : s.instant ≡ time_of history
+
+-- for the proofs: of how the time of eras was used nothing changes; or another era begins, if one
+-- does
+pub record IsSameTime (old new : JobStatistics) : Type 0 where
+  pub eras_are : new.eras ≡ old.eras
+  pub era_is : new.era ≡ old.era
+
+abbrev pub IsNextEra : Bool → JobStatistics → JobStatistics → Type 0
+IsNextEra true old new =
+    (new.eras.items ≡ old.eras.items ++ old.era ∷ []) × (used_in new.era ≡ all_used [])
+IsNextEra false old new = IsSameTime old new
 
 -- for the proofs: the same, where of a snapshot more so many numbers have been noted
 pub record AreJobsUpTo (count : ℕ) (s : Snapshot) (history : List Snapshot) (j : JobStatistics)

@@ -1,7 +1,9 @@
 //! The statistics of the jobs of an address.
 ghost use Rattle.std.specs.Prelude.{◌≡◌, ◌+◌, ◌-◌, ℕ, List, [], ◌∷◌, ◌++◌, OnOk, if◌then◌else◌};
-ghost use Rattle.agc_stats.specs.Addresses.{IsAddress, earliest, is_end, missed_by};
-ghost use Rattle.agc_stats.specs.Addresses.{responses_of};
+ghost use Rattle.std.specs.Prelude.{Option};
+ghost use Rattle.std.specs.List.Sorted.{IsNonDecreasing};
+ghost use Rattle.agc_stats.specs.Addresses.{IsAddress, IsRow, earliest, is_end, mean_times};
+ghost use Rattle.agc_stats.specs.Addresses.{missed_by, nearest_rank, responses_of, total};
 ghost use Rattle.agc_stats.specs.Eras.{counted};
 ghost use Rattle.agc_stats.specs.declared.live_jobs.JobLife.{JobLife};
 
@@ -56,6 +58,27 @@ fn note_response(responses: &mut Vec<u64>, life: &JobLife) -> Result<(), AllocEr
         LifeEnd::Lost | LifeEnd::Alive => {}
     }
     Ok(())
+}
+
+/// Means over the jobs of an address that ended, in hundredths of a centisecond: how long they took,
+/// and how much of that they computed, waited and slept.
+#[derive(Clone, Copy)]
+pub struct MeanTimes {
+    pub response: u64,
+    pub computed: u64,
+    pub waited: u64,
+    pub slept: u64,
+}
+
+/// The sum of times.
+fn total(times: &[u64]) -> u64
+    ensures { result ≡ total times.now }
+{
+    let mut total: u64 = 0;
+    for time in times {
+        total = total.saturating_add(*time);
+    }
+    total
 }
 
 /// The jobs of an address: how many were released, were lost as an era began, and live at the end;
@@ -129,5 +152,46 @@ impl AddressStatistics {
         self.missed = self.missed.saturating_add(one_if(missed.is_some()));
         self.first_missed = earliest(self.first_missed, missed);
         note_response(&mut self.responses, life)
+    }
+
+    /// Sorts the response times.
+    pub(crate) fn sort(&mut self) -> Result<(), AllocError>
+        ensures sorted { OnOk result (IsNonDecreasing self.new.responses.items) }
+        ensures stays { (deadlines : ℕ → Option ℕ) (releases : List ℕ) (lives : List JobLife)
+            → IsRow deadlines releases lives self.old → IsRow deadlines releases lives self.new }
+        ensures address { self.new.at ≡ self.old.at }
+    {
+        self.responses.sort()
+    }
+
+    /// The means of the jobs that ended; None if none did.
+    pub fn mean_times(&self) -> Option<MeanTimes>
+        ensures { result ≡ mean_times self.now }
+    {
+        let times = self.responses.as_slice();
+        let count = times.len() as u64;
+        if count == 0 {
+            return None;
+        }
+        let total = total(times);
+        let waited = total
+            .saturating_sub(self.computed_to_end)
+            .saturating_sub(self.slept_to_end);
+        Some(MeanTimes {
+            response: total / count,
+            computed: self.computed_to_end / count,
+            waited: waited / count,
+            slept: self.slept_to_end / count,
+        })
+    }
+
+    /// The least of the response times, once they are sorted, that this percentage of them doesn't
+    /// exceed; None if there are none.
+    pub fn percentile(&self, percent: usize) -> Option<u64>
+        ensures { result ≡ nearest_rank percent self.now.responses.items }
+    {
+        let times = self.responses.as_slice();
+        let rank = times.len().saturating_mul(percent).saturating_add(99) / 100;
+        times.get(rank.saturating_sub(1)).copied()
     }
 }

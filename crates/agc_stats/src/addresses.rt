@@ -1,6 +1,7 @@
 //! The rows of a table of jobs by their addresses.
 ghost use Rattle.std.specs.Prelude.{◌≡◌, ◌==◌, ◌<◌, ℕ, List, [], ◌∷◌, ◌++◌, Option, OnOk};
-ghost use Rattle.std.specs.List.{count_by, position};
+ghost use Rattle.std.specs.List.{All, count_by, position};
+ghost use Rattle.std.specs.List.Sorted.{IsNonDecreasing};
 ghost use Rattle.agc_stats.specs.Addresses.{AreRows};
 ghost use Rattle.agc_stats.specs.declared.live_jobs.JobLife.{JobLife};
 
@@ -39,6 +40,20 @@ pub(crate) fn count_release(
             Ok(())
         }
     }
+}
+
+/// Sorts the response times of each row.
+pub(crate) fn sort_rows(rows: &mut Vec<AddressStatistics>) -> Result<(), AllocError>
+    ensures rows { OnOk result ((deadlines : ℕ → Option ℕ) (releases : List ℕ)
+        (lives : List JobLife) → AreRows deadlines releases lives rows.old.items
+        → AreRows deadlines releases lives rows.new.items) }
+    ensures sorted { OnOk result
+        (All (λ row. IsNonDecreasing row.responses.items) rows.new.items) }
+{
+    for place in 0..rows.len() {
+        rows[place].sort()?;
+    }
+    Ok(())
 }
 
 /// Adds a life that is over to the row of its address.

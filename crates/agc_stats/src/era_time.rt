@@ -1,7 +1,7 @@
 //! How the time of an era was used.
-ghost use Rattle.std.specs.Prelude.{ℕ, List, [], ◌∷◌, ◌++◌};
+ghost use Rattle.std.specs.Prelude.{◌≡◌, List, [], ◌∷◌, ◌++◌};
 ghost use Rattle.agc_clock.specs.declared.elapsed.Elapsed.{Elapsed};
-ghost use Rattle.agc_stats.specs.Eras.{IsEraTime};
+ghost use Rattle.agc_stats.specs.Eras.{all_used, used_in};
 
 use agc_clock::Elapsed;
 
@@ -18,7 +18,8 @@ pub struct EraTime {
 impl EraTime {
     /// An era that begins at a centisecond.
     pub(crate) fn new(began: u64) -> EraTime
-        ensures { IsEraTime began [] result }
+        ensures began { result.began ≡ began }
+        ensures used { used_in result ≡ all_used [] }
     {
         EraTime {
             began,
@@ -30,8 +31,9 @@ impl EraTime {
 
     /// Adds time that has passed.
     pub(crate) fn pass(&mut self, elapsed: Elapsed)
-        ensures { (began : ℕ) (all : List Elapsed) → IsEraTime began all self.old
-            → IsEraTime began (all ++ elapsed ∷ []) self.new }
+        ensures began { self.new.began ≡ self.old.began }
+        ensures used { (all : List Elapsed) → used_in self.old ≡ all_used all
+            → used_in self.new ≡ all_used (all ++ elapsed ∷ []) }
     {
         self.computed = self.computed.saturating_add(u64::from(elapsed.computed));
         self.stolen = self.stolen.saturating_add(u64::from(elapsed.stolen));

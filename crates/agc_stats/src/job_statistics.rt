@@ -1,16 +1,22 @@
 //! The statistics of jobs by their addresses, and how the time of each era was used.
 ghost use Rattle.std.specs.Prelude.{◌≡◌, ◌+◌, ◌<◌, [], ◌∷◌, ◌++◌, ℕ, List, Option, OnOk};
-ghost use Rattle.std.specs.Prelude.{IfSome, is_some};
+ghost use Rattle.std.specs.Prelude.{IfOk, IfSome, None, is_some, replicate, true};
+ghost use Rattle.std.specs.List.{All};
+ghost use Rattle.std.specs.List.Sorted.{IsNonDecreasing};
 ghost use Rattle.std.specs.Option.{option_to_list};
+ghost use Rattle.agc_clock.specs.declared.elapsed.Elapsed.{Elapsed};
 ghost use Rattle.agc_stats.specs.Addresses.{AreRows, IsAddress, releases_at};
-ghost use Rattle.agc_stats.specs.Followed.{AreFollowed, AreJobs, AreJobsUpTo, begun};
+ghost use Rattle.agc_stats.specs.Eras.{all_used, used_in};
+ghost use Rattle.agc_stats.specs.Followed.{AreFollowed, AreJobs, AreJobsUpTo, IsNextEra};
+ghost use Rattle.agc_stats.specs.Followed.{IsSameTime, begun};
 ghost use Rattle.agc_stats.specs.Followed.{deadline_among, deadline_in};
 ghost use Rattle.agc_stats.specs.Followed.{deadlines_of, next_snapshot, noted_by, passed_by};
 ghost use Rattle.agc_stats.specs.declared.live_jobs.JobLife.{JobLife};
+ghost use Rattle.agc_stats.specs.declared.live_jobs.LifeEnd.TheVariants.{Alive};
 ghost use Rattle.agc_stats.specs.declared.live_jobs.Snapshot.{Snapshot};
 
 use crate::address_statistics::AddressStatistics;
-use crate::addresses::{count_life, count_release};
+use crate::addresses::{count_life, count_release, sort_rows};
 use crate::era_time::EraTime;
 use crate::live_jobs::{
     Hundredths, JobLife, LifeEnd, LiveJob, MOST, ObservedJobs, Snapshot, follow, leave, release,
@@ -59,7 +65,9 @@ pub struct JobStatistics<'a> {
     timing: Option<&'a Timing>,
     live_jobs: [Option<LiveJob>; MOST],
     pub rows: Vec<AddressStatistics>,
+    /// The time of each era that is over, and of the present one.
     pub eras: Vec<EraTime>,
+    era: EraTime,
     /// The time of the last snapshot.
     pub instant: Hundredths,
     /// The present centisecond.
@@ -103,6 +111,7 @@ impl<'a> JobStatistics<'a> {
     fn none(alloc: Global, timing: Option<&'a Timing>) -> JobStatistics<'a>
         ensures followed { AreFollowed [] result }
         ensures timing { result.timing ≡ timing.entry }
+        ensures eras { (result.eras.items ≡ []) × (used_in result.era ≡ all_used []) }
     {
         JobStatistics {
             alloc,
@@ -110,6 +119,7 @@ impl<'a> JobStatistics<'a> {
             live_jobs: [None; MOST],
             rows: Vec::new(alloc),
             eras: Vec::new(alloc),
+            era: EraTime::new(0),
             instant: 0,
             time: 0,
         }
@@ -120,9 +130,13 @@ impl<'a> JobStatistics<'a> {
         alloc: Global,
         timing: Option<&'a Timing>,
         jobs: &ObservedJobs,
-    ) -> Result<JobStatistics<'a>, AllocError> {
+    ) -> Result<JobStatistics<'a>, AllocError>
+        ensures followed { IfOk result (λ s. AreFollowed (begun jobs.now []) s) }
+        ensures timing { IfOk result (λ s. s.timing ≡ timing.entry) }
+        ensures eras { IfOk result (λ s. (s.eras.items ≡ []) × (used_in s.era ≡ all_used [])) }
+    {
         let mut job_statistics = JobStatistics::none(alloc, timing);
-        job_statistics.begin_era(jobs)?;
+        job_statistics.see_era(jobs)?;
         Ok(job_statistics)
     }
 
@@ -146,10 +160,11 @@ impl<'a> JobStatistics<'a> {
         ensures rows { self.new.rows ≡ self.old.rows }
         ensures timing { self.new.timing ≡ self.old.timing }
         ensures instant { self.new.instant ≡ self.old.instant }
+        ensures eras { self.new.eras ≡ self.old.eras }
+        ensures era { (all : List Elapsed) → used_in self.old.era ≡ all_used all
+            → used_in self.new.era ≡ all_used (all ++ elapsed ∷ []) }
     {
-        if let Some(era) = self.eras.last_mut() {
-            era.pass(elapsed);
-        }
+        self.era.pass(elapsed);
         if let Some(clock) = clock {
             self.time = u64::from(clock.time());
         } else if ticks {
@@ -166,6 +181,7 @@ impl<'a> JobStatistics<'a> {
         ensures stays { (self.new.live_jobs ≡ self.old.live_jobs)
             × (self.new.timing ≡ self.old.timing) }
         ensures instant { self.new.instant ≡ self.old.instant }
+        ensures eras { IsSameTime self.old self.new }
     {
         match at {
             None => Ok(()),
@@ -186,6 +202,7 @@ impl<'a> JobStatistics<'a> {
         ensures stays { (self.new.live_jobs ≡ self.old.live_jobs)
             × (self.new.timing ≡ self.old.timing) }
         ensures instant { self.new.instant ≡ self.old.instant }
+        ensures eras { IsSameTime self.old self.new }
     {
         match life {
             None => Ok(()),
@@ -201,6 +218,7 @@ impl<'a> JobStatistics<'a> {
             → AreJobsUpTo (place + 1) snapshot.now history self.new) }
         ensures timing { self.new.timing ≡ self.old.timing }
         ensures instant { self.new.instant ≡ self.old.instant }
+        ensures eras { IsSameTime self.old self.new }
     {
         let live_job = self.live_jobs[place];
         let job_state = snapshot.jobs[place];
@@ -216,6 +234,7 @@ impl<'a> JobStatistics<'a> {
             → AreJobs (snapshot.now ∷ history) self.new) }
         ensures timing { self.new.timing ≡ self.old.timing }
         ensures instant { self.new.instant ≡ self.old.instant }
+        ensures eras { IsSameTime self.old self.new }
     {
         for place in 0..MOST {
             self.note_number(place, snapshot)?;
@@ -233,6 +252,7 @@ impl<'a> JobStatistics<'a> {
         ensures followed { OnOk result ((history : List Snapshot) → AreFollowed history self.old
             → AreFollowed (next_snapshot passed end jobs.now history ∷ history) self.new) }
         ensures timing { self.new.timing ≡ self.old.timing }
+        ensures eras { IsSameTime self.old self.new }
     {
         self.instant = self.instant.saturating_add(passed.time);
         let snapshot = Snapshot {
@@ -245,15 +265,51 @@ impl<'a> JobStatistics<'a> {
         self.note(&snapshot)
     }
 
-    /// Begins an era with these jobs: those that were alive are lost.
+    /// Notes the beginning of an era with these jobs: those that were alive are lost.
+    fn see_era(&mut self, jobs: &ObservedJobs) -> Result<(), AllocError>
+        ensures followed { OnOk result ((history : List Snapshot) → AreFollowed history self.old
+            → AreFollowed (begun jobs.now history) self.new) }
+        ensures timing { self.new.timing ≡ self.old.timing }
+        ensures eras { IsSameTime self.old self.new }
+    {
+        self.see(PassedTime::none(), LifeEnd::Lost, &[None; MOST])?;
+        self.see(PassedTime::none(), LifeEnd::Ended, jobs)
+    }
+
+    /// Ends the era.
+    fn end_era(&mut self) -> Result<(), AllocError>
+        ensures eras { OnOk result (self.new.eras.items ≡ self.old.eras.items ++ self.old.era ∷ []) }
+        ensures era { OnOk result (used_in self.new.era ≡ all_used []) }
+        ensures jobs { (self.new.live_jobs ≡ self.old.live_jobs)
+            × ((self.new.rows ≡ self.old.rows) × (self.new.instant ≡ self.old.instant)) }
+        ensures timing { self.new.timing ≡ self.old.timing }
+    {
+        self.eras.push(self.era)?;
+        self.era = EraTime::new(self.time);
+        Ok(())
+    }
+
+    /// Begins an era with these jobs.
     fn begin_era(&mut self, jobs: &ObservedJobs) -> Result<(), AllocError>
         ensures followed { OnOk result ((history : List Snapshot) → AreFollowed history self.old
             → AreFollowed (begun jobs.now history) self.new) }
         ensures timing { self.new.timing ≡ self.old.timing }
+        ensures eras { OnOk result (IsNextEra true self.old self.new) }
     {
-        self.see(PassedTime::none(), LifeEnd::Lost, &[None; MOST])?;
-        self.eras.push(EraTime::new(self.time))?;
-        self.see(PassedTime::none(), LifeEnd::Ended, jobs)
+        self.end_era()?;
+        self.see_era(jobs)
+    }
+
+    /// Notes the end of the run after some time: the jobs that were alive are so still.
+    pub(crate) fn end(&mut self, passed: PassedTime) -> Result<(), AllocError>
+        ensures followed { OnOk result ((history : List Snapshot) → AreFollowed history self.old
+            → AreFollowed (next_snapshot passed Alive (replicate 8 None) history ∷ history)
+            self.new) }
+        ensures timing { self.new.timing ≡ self.old.timing }
+        ensures eras { OnOk result (self.new.eras.items ≡ self.old.eras.items ++ self.old.era ∷ []) }
+    {
+        self.end_era()?;
+        self.see(passed, LifeEnd::Alive, &[None; MOST])
     }
 
     /// Notes a request: what passed before it, the jobs as it left them, and those of the era that
@@ -267,6 +323,7 @@ impl<'a> JobStatistics<'a> {
         ensures followed { OnOk result ((history : List Snapshot) → AreFollowed history self.old
             → AreFollowed (noted_by passed left.now era history) self.new) }
         ensures timing { self.new.timing ≡ self.old.timing }
+        ensures eras { OnOk result (IsNextEra (is_some era) self.old self.new) }
     {
         self.see(passed, LifeEnd::Ended, left)?;
         match era {
@@ -276,10 +333,14 @@ impl<'a> JobStatistics<'a> {
     }
 
     /// Sorts the times of the jobs that ended.
-    pub(crate) fn sort(&mut self) -> Result<(), AllocError> {
-        for row in self.rows.iter_mut() {
-            row.responses.sort()?;
-        }
-        Ok(())
+    pub(crate) fn sort(&mut self) -> Result<(), AllocError>
+        ensures followed { OnOk result ((history : List Snapshot) → AreFollowed history self.old
+            → AreFollowed history self.new) }
+        ensures sorted { OnOk result
+            (All (λ row. IsNonDecreasing row.responses.items) self.new.rows.items) }
+        ensures timing { self.new.timing ≡ self.old.timing }
+        ensures eras { self.new.eras ≡ self.old.eras }
+    {
+        sort_rows(&mut self.rows)
     }
 }

@@ -1,5 +1,5 @@
 //! The statistics of a run's jobs.
-ghost use Rattle.std.specs.Prelude.{◌≡◌, ◌&&◌, not, List, Some, None, OnOk, is_some};
+ghost use Rattle.std.specs.Prelude.{◌≡◌, ◌&&◌, not, List, [], Some, None, IfOk, OnOk, is_some};
 ghost use Rattle.std.specs.Prelude.{if◌then◌else◌};
 ghost use Rattle.std.specs.List.{fold};
 ghost use Rattle.std.specs.Result.{is_ok};
@@ -7,13 +7,14 @@ ghost use Rattle.agc_machine.specs.Machines.{after, begins_with};
 ghost use Rattle.agc_plan.specs.Steps.{is_tick};
 ghost use Rattle.agc_run.specs.Events.{scene_now};
 ghost use Rattle.agc_run.specs.Runs.{to_ask};
+ghost use Rattle.agc_stats.specs.Eras.{all_used, used_in};
 ghost use Rattle.agc_stats.specs.Followed.{AreFollowed};
-ghost use Rattle.agc_stats.specs.JobRuns.{AreOfRun};
+ghost use Rattle.agc_stats.specs.JobRuns.{AreJobsOf, AreOfRun};
 ghost use Rattle.agc_stats.specs.ObservedJobs.{states_in};
 ghost use Rattle.agc_stats.specs.declared.live_jobs.Snapshot.{Snapshot};
 
 use crate::job_statistics::{JobStatistics, PassedTime};
-use crate::live_jobs::{LifeEnd, MOST, ObservedJobs, jobs_in};
+use crate::live_jobs::{ObservedJobs, jobs_in};
 use agc_machine::{Machine, Refusal};
 use agc_plan::{Reply, Request};
 use agc_run::{Run, Subject};
@@ -49,9 +50,11 @@ fn jobs_to_end(job_statistics: &mut JobStatistics<'_>, run: &mut Run<'_>) -> Res
     ensures machine { OnOk result (run.new.machine
         ≡ fold after run.old.machine (to_ask run.old.machine run.old.pending)) }
     ensures followed { OnOk result ((history : List Snapshot)
-        → AreFollowed history job_statistics.old
+        → AreFollowed history job_statistics.old → job_statistics.old.eras.items ≡ []
+        → used_in job_statistics.old.era ≡ all_used []
         → AreOfRun (is_some job_statistics.old.timing) history run.old.machine run.old.pending
         job_statistics.new) }
+    ensures timing { job_statistics.new.timing ≡ job_statistics.old.timing }
 {
     while let Some(call) = run.next() {
         let elapsed = run.elapsed();
@@ -64,11 +67,7 @@ fn jobs_to_end(job_statistics: &mut JobStatistics<'_>, run: &mut Run<'_>) -> Res
     }
     let elapsed = run.elapsed();
     job_statistics.pass(elapsed, run.clock(), false);
-    job_statistics.see(
-        PassedTime::by(elapsed, false),
-        LifeEnd::Alive,
-        &[None; MOST],
-    )
+    job_statistics.end(PassedTime::by(elapsed, false))
 }
 
 /// The statistics of the jobs of a bench or a scenario.
@@ -79,7 +78,9 @@ fn jobs_to_end(job_statistics: &mut JobStatistics<'_>, run: &mut Run<'_>) -> Res
 pub fn job_statistics_of<'a>(
     alloc: Global,
     subject: Subject<'a>,
-) -> Result<JobStatistics<'a>, RunFault> {
+) -> Result<JobStatistics<'a>, RunFault>
+    ensures { IfOk result (λ s. AreJobsOf subject.entry s) }
+{
     let mut run = subject.run(alloc)?;
     let jobs = jobs_in(run.machine().erasable());
     let mut job_statistics = JobStatistics::new(alloc, subject.timing(), &jobs)?;

@@ -13,7 +13,7 @@ mod occupancy;
 mod run_statistics;
 mod running;
 
-pub use address_statistics::AddressStatistics;
+pub use address_statistics::{AddressStatistics, MeanTimes};
 pub use era::{EndedEra, EraBoundary, EraStatistics, Peak};
 pub use era_time::EraTime;
 pub use job_statistics::JobStatistics;

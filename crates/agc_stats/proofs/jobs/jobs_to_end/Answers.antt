@@ -17,7 +17,7 @@ use Rattle.agc_stats.specs.declared.live_jobs.LifeEnd.TheVariants.{Alive}
 use Rattle.agc_stats.specs.declared.job_statistics.PassedTime.{PassedTime}
 use Rattle.agc_run.specs.Reading.{IsServed}
 use Rattle.agc_run.specs.Runs.{Pending, Pulls, asks_after, elapsed_in, to_ask}
-use Rattle.agc_stats.proofs.Counting.{on_ok}
+use Rattle.agc_stats.proofs.EraTimes.{on_both}
 use Rattle.agc_stats.proofs.JobRuns.{all_made, none_made, not_some, one_made}
 use Rattle.agc_stats.proofs.Occupancies.{left_seats}
 use Rattle.agc_stats.proofs.Runs.{asked_once}
@@ -27,7 +27,7 @@ use Rattle.agc_stats.proofs.jobs.jobs_to_end.Goals as goal
 pub loop-call-init : goal.loop-call-init
 loop-call-init c = record {
   machine = refl {a = fold after c.args.run.now.machine (to_ask c.args.run.now.machine c.args.run.now.pending)};
-  followed = λ history are. none_made (is_some c.args.job_statistics.now.timing) history c.args.run.now.machine c.args.run.now.pending c.args.job_statistics.now are;
+  followed = λ history are eras era. none_made (is_some c.args.job_statistics.now.timing) history c.args.run.now.machine c.args.run.now.pending c.args.job_statistics.now are eras era;
   timing = refl;
 }
 
@@ -64,16 +64,17 @@ loop-call-preserved c =
     ∙ ap (λ (a : Result Reply Refusal). not timed && (is_tick q && is_ok a)) answer in
     record {
       machine = asked_once m old mid new c.in-Some.call now c.in-Some.ensures.pulls asked pending ∙ c.loop-call.invariant.machine;
-      followed = λ history are.
-          one_made timed history c.args.run.now.machine c.args.run.now.pending m old mid new c.in-Some.call now c.elapsed-elapsed.result c.ticks-ticks.result c.jobs_in-left.result c.jobs_of_era-era.result c.loop-call.job_statistics c.serve.new.self
-          (c.loop-call.invariant.followed history are) c.in-Some.ensures.pulls elapsed elapses asked pending ticks left era
+      followed = λ history are eras era_is.
+          one_made timed history c.args.run.now.machine c.args.run.now.pending m old mid new c.in-Some.call now c.elapsed-elapsed.result c.ticks-ticks.result c.jobs_in-left.result c.jobs_of_era-era.result c.loop-call.job_statistics c.pass.new.self c.serve.new.self
+          (c.loop-call.invariant.followed history are eras era_is) c.in-Some.ensures.pulls elapsed elapses asked pending ticks left era
           (λ h before. subst (λ (p : PassedTime). AreFollowed (noted_by p c.jobs_in-left.result c.jobs_of_era-era.result h) c.serve.new.self) c.by.ensures
-          (c.in_ok-serve.ensures.followed h (same_followed h c.loop-call.job_statistics c.pass.new.self c.pass.ensures.live_jobs (ap (λ v. v.items) c.pass.ensures.rows) c.pass.ensures.timing c.pass.ensures.instant before)));
+          (c.in_ok-serve.ensures.followed h (same_followed h c.loop-call.job_statistics c.pass.new.self c.pass.ensures.live_jobs (ap (λ v. v.items) c.pass.ensures.rows) c.pass.ensures.timing c.pass.ensures.instant before)))
+          c.pass.ensures.eras c.pass.ensures.era c.in_ok-serve.ensures.eras;
       timing = c.in_ok-serve.ensures.timing ∙ c.pass.ensures.timing ∙ c.loop-call.invariant.timing;
     }
 
 pub returns-clause-followed : goal.returns-clause-followed
-returns-clause-followed c = on_ok c.see.result (λ ended history are.
+returns-clause-followed c = on_both c.end.result (λ ended over history are eras era_is.
     let m : Machined = c.loop-call.run.machine in
     let old : Pending = c.loop-call.run.pending in
     let mid : Pending = c.next.new.self.pending in
@@ -81,8 +82,9 @@ returns-clause-followed c = on_ok c.see.result (λ ended history are.
     let pulls : Pulls m old None mid = subst (λ (o : Option PendingRequest). Pulls m old o mid) (not_some c.next.result c.in_default.not-Some) c.next.ensures.pulls in
     let rest : c.elapsed-elapsed-2.result ≡ elapsed_in (plain_of m).work.jobs old mid = c.elapsed-elapsed-2.ensures ∙ c.next.ensures.elapsed in
     let elapses : Elapses old.clock c.elapsed-elapsed-2.result mid.clock = subst (λ (e : Elapsed). Elapses old.clock e mid.clock) (sym c.elapsed-elapsed-2.ensures) c.next.ensures.all_elapsed in
-    all_made timed history c.args.run.now.machine c.args.run.now.pending m old mid c.elapsed-elapsed-2.result c.loop-call.job_statistics c.see.new.self
-    (c.loop-call.invariant.followed history are) pulls rest elapses
-    (λ h before. subst (λ (p : PassedTime). AreFollowed (next_snapshot p Alive (replicate 8 None) h ∷ h) c.see.new.self) c.by-2.ensures
-    (ended h (same_followed h c.loop-call.job_statistics c.pass-2.new.self c.pass-2.ensures.live_jobs (ap (λ v. v.items) c.pass-2.ensures.rows) c.pass-2.ensures.timing c.pass-2.ensures.instant before))))
-    c.see.ensures.followed
+    all_made timed history c.args.run.now.machine c.args.run.now.pending m old mid c.elapsed-elapsed-2.result c.loop-call.job_statistics c.pass-2.new.self c.end.new.self
+    (c.loop-call.invariant.followed history are eras era_is) pulls rest elapses
+    (λ h before. subst (λ (p : PassedTime). AreFollowed (next_snapshot p Alive (replicate 8 None) h ∷ h) c.end.new.self) c.by-2.ensures
+    (ended h (same_followed h c.loop-call.job_statistics c.pass-2.new.self c.pass-2.ensures.live_jobs (ap (λ v. v.items) c.pass-2.ensures.rows) c.pass-2.ensures.timing c.pass-2.ensures.instant before)))
+    c.pass-2.ensures.eras c.pass-2.ensures.era over)
+    c.end.ensures.followed c.end.ensures.eras

@@ -1,17 +1,14 @@
-use Rattle.std.proofs.Common.{◌∷◌, List, replicate, None, refl, subst}
-use Rattle.agc_stats.specs.Followed.{AreFollowed, at_once, next_snapshot}
-use Rattle.agc_stats.specs.declared.job_statistics.PassedTime.{PassedTime}
-use Rattle.agc_stats.specs.declared.live_jobs.LifeEnd.TheVariants.{Ended, Lost}
-use Rattle.agc_stats.specs.declared.live_jobs.Snapshot.{Snapshot}
+use Rattle.std.proofs.Common.{ap}
 use Rattle.agc_stats.proofs.Counting.{on_ok}
+use Rattle.agc_stats.proofs.EraTimes.{always, next_then}
 use Rattle.agc_stats.proofs.Snapshots.{same_followed}
 use Rattle.agc_stats.proofs.job_statistics.JobStatistics.begin_era.Goals as goal
 
 pub returns-clause-followed : goal.returns-clause-followed
-returns-clause-followed c = on_ok c.see-2.result (λ second history are.
-    let lost : List Snapshot = at_once Lost (replicate 8 None) history in
-    let first : AreFollowed lost c.see.new.self =
-    subst (λ (p : PassedTime). AreFollowed (next_snapshot p Lost (replicate 8 None) history ∷ history) c.see.new.self) c.none.ensures (c.in_ok-see.ensures.followed history are) in
-    subst (λ (p : PassedTime). AreFollowed (next_snapshot p Ended c.args.jobs.now lost ∷ lost) c.see-2.new.self) c.none-2.ensures
-    (second lost (same_followed lost c.see.new.self _ refl refl refl refl first)))
-    c.see-2.ensures.followed
+returns-clause-followed c = on_ok c.see_era.result (λ began history are.
+    began history (same_followed history c.args.self.now c.end_era.new.self c.end_era.ensures.jobs.0 (ap (λ v. v.items) c.end_era.ensures.jobs.1.0) c.end_era.ensures.timing c.end_era.ensures.jobs.1.1 are))
+    c.see_era.ensures.followed
+
+pub returns-clause-eras : goal.returns-clause-eras
+returns-clause-eras c =
+    always c.see_era.result (next_then c.args.self.now c.end_era.new.self c.see_era.new.self c.in_ok-end_era.ensures.eras c.in_ok-end_era.ensures.era c.see_era.ensures.eras)

@@ -48,3 +48,9 @@ returns-clause-jobs c history up =
       rows_are = subst (λ (l : List ℕ). AreRows (deadlines_of two.timing) l (lives history ++ filter_map (λ (k : ℕ). gone k s history) (range_with_len 0 (n + 1))) two.rows.items) more
           (subst (λ (l : List JobLife). AreRows (deadlines_of two.timing) (before ++ option_to_list c.release.result) l two.rows.items) further second);
     }
+
+pub returns-clause-eras : goal.returns-clause-eras
+returns-clause-eras c = record {
+  eras_are = c.count_life.ensures.eras.eras_are ∙ c.count_release.ensures.eras.eras_are;
+  era_is = c.count_life.ensures.eras.era_is ∙ c.count_release.ensures.eras.era_is;
+}
