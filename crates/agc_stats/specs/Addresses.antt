@@ -61,8 +61,8 @@ pub record IsAddress (lives : List JobLife) (row : AddressStatistics) : Type 0 w
       ≡ counted (count_by (λ life. is_some (missed_by row.deadline life)) lives)
   pub first_missed_is : row.first_missed ≡ first_missed row.deadline lives
 
--- the means over the jobs of an address that ended, if one did: of their response times, and of what
--- they computed, slept, and waited in the rest
+-- the means over the jobs of an address that ended, if one did: of their response times, and of
+-- what they computed, slept, and waited in the rest
 abbrev pub total : List ℕ → ℕ
 total times = counted (sum_by (λ time. time) times)
 
@@ -83,7 +83,8 @@ mean_times row =
 -- of times in order the one of the nearest rank: the first that so many percent of them don't
 -- exceed
 abbrev pub nearest_rank : ℕ → List ℕ → Option ℕ
-nearest_rank percent times = slice_get times (counted (counted (length times * percent) + 99) / 100 - 1)
+nearest_rank percent times =
+    slice_get times (counted (counted (length times * percent) + 99) / 100 - 1)
 
 -- each address once, in the order in which the first of its jobs was released
 abbrev pub noted : List ℕ → ℕ → List ℕ

@@ -60,8 +60,8 @@ fn note_response(responses: &mut Vec<u64>, life: &JobLife) -> Result<(), AllocEr
     Ok(())
 }
 
-/// Means over the jobs of an address that ended, in hundredths of a centisecond: how long they took,
-/// and how much of that they computed, waited and slept.
+/// Means over the jobs of an address that ended, in hundredths of a centisecond: how long they
+/// took, and how much of that they computed, waited and slept.
 #[derive(Clone, Copy)]
 pub struct MeanTimes {
     pub response: u64,

@@ -278,7 +278,8 @@ impl<'a> JobStatistics<'a> {
 
     /// Ends the era.
     fn end_era(&mut self) -> Result<(), AllocError>
-        ensures eras { OnOk result (self.new.eras.items ≡ self.old.eras.items ++ self.old.era ∷ []) }
+        ensures eras { OnOk result (self.new.eras.items
+            ≡ self.old.eras.items ++ self.old.era ∷ []) }
         ensures era { OnOk result (used_in self.new.era ≡ all_used []) }
         ensures jobs { (self.new.live_jobs ≡ self.old.live_jobs)
             × ((self.new.rows ≡ self.old.rows) × (self.new.instant ≡ self.old.instant)) }
@@ -306,7 +307,8 @@ impl<'a> JobStatistics<'a> {
             → AreFollowed (next_snapshot passed Alive (replicate 8 None) history ∷ history)
             self.new) }
         ensures timing { self.new.timing ≡ self.old.timing }
-        ensures eras { OnOk result (self.new.eras.items ≡ self.old.eras.items ++ self.old.era ∷ []) }
+        ensures eras { OnOk result (self.new.eras.items
+            ≡ self.old.eras.items ++ self.old.era ∷ []) }
     {
         self.end_era()?;
         self.see(passed, LifeEnd::Alive, &[None; MOST])
