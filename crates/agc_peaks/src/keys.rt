@@ -83,12 +83,12 @@ fn put_json(value: &Value, buffer: &mut Buffer) {
 /// Adds an array as JSON.
 #[cycle(put_json)]
 fn put_items(items: &Array, buffer: &mut Buffer) {
-    let mut before = "";
+    let mut is_first = true;
     buffer.text("[");
     for item in items {
-        buffer.text(before);
+        buffer.text(if is_first { "" } else { "," });
         put_json(item, buffer);
-        before = ",";
+        is_first = false;
     }
     buffer.text("]");
 }
@@ -96,12 +96,13 @@ fn put_items(items: &Array, buffer: &mut Buffer) {
 /// Adds a table as JSON.
 #[cycle(put_json)]
 fn put_members(table: &Document, buffer: &mut Buffer) {
-    let mut before = "";
+    let mut is_first = true;
     buffer.text("{");
     for (key, member) in table.iter() {
-        buffer.put("{}\"{}\":", &[Text(before), Json(key.as_str())]);
+        buffer.text(if is_first { "" } else { "," });
+        buffer.put("\"{}\":", &[Json(key.as_str())]);
         put_json(member, buffer);
-        before = ",";
+        is_first = false;
     }
     buffer.text("}");
 }
@@ -109,6 +110,7 @@ fn put_members(table: &Document, buffer: &mut Buffer) {
 impl Keys<'_> {
     /// Adds a value; one that is neither a number nor a text as TOML or JSON has it.
     fn fill_value(&mut self, column: Column<'_>, value: Option<&Value>) -> Result<(), AllocError> {
+        let is_json = self.table.form == TableForm::JsonLines;
         let row = &mut self.table.row;
         match value {
             None => row.option(column, None),
@@ -116,7 +118,7 @@ impl Keys<'_> {
                 row.cell(column, Number(number.unsigned_abs()));
             }
             Some(Value::String(text)) => row.cell(column, Text(text.as_str())),
-            Some(other) if self.table.form == TableForm::JsonLines => {
+            Some(other) if is_json => {
                 put_json(other, &mut row.text);
                 row.end_plain(column);
             }

@@ -14,25 +14,18 @@ use std::io::Write;
 #[derive(Drop)]
 struct EraLines<'a, W> {
     has_time: bool,
-    made: u64,
+    made: &'a mut u64,
     table: &'a mut Table,
     writer: &'a mut W,
 }
 
-impl<W> EraLines<'_, W> {
-    /// Adds the row of an era that has ended.
-    fn put(&mut self, era: &EndedEra) {
-        fill_era(era, self.made, self.has_time, self.table);
-        self.table.end_row();
-        self.made = 0;
-    }
-}
-
 impl<W: Write> RunObserver for EraLines<'_, W> {
     fn note(&mut self, _request: &Request, ended: Option<EndedEra>) -> Result<(), RunFault> {
-        self.made = self.made.saturating_add(1);
+        *self.made = self.made.saturating_add(1);
         if let Some(era) = ended {
-            self.put(&era);
+            fill_era(&era, *self.made, self.has_time, self.table);
+            self.table.end_row();
+            *self.made = 0;
         }
         send_table(self.table, self.writer)
     }
@@ -48,15 +41,18 @@ fn put_eras<W: Write>(
     let none = RunStatistics::new(run.machine()).present_era(EraBoundary::End, 0);
     fill_era(&none, 0, has_time, table);
     table.end_heading();
+    let mut made = 0;
     let mut eras = EraLines {
         has_time,
-        made: 0,
+        made: &mut made,
         table,
         writer,
     };
     let statistics = run_to_end(run, &mut eras)?;
-    eras.put(&statistics.present_era(EraBoundary::End, 0));
-    send_table(eras.table, eras.writer)
+    let last = statistics.present_era(EraBoundary::End, 0);
+    fill_era(&last, made, has_time, table);
+    table.end_row();
+    send_table(table, writer)
 }
 
 /// Runs a bench or a scenario, and writes for each era when it began and why, how long it lasted,
