@@ -17,7 +17,7 @@ LOOKS = """(() => {
     ...Array.from(document.querySelectorAll('#rows th'), (it) => it.textContent)].join(', ');
 })()"""
 LOOK = ('true, " Δ", line-through, dashed, status polite, status polite, status polite, Alarm 1202: why, Core sets: 7 of 7 in use, VAC areas: 0 of 5 in use, Waitlist: 0 of 9 in use, Phases, '
-        "Alarm codes (FAILREG), Next job (NEWJOB), PorEscback, First, Back, Run, Next, Last, Nextalarm, "
+        "Alarm codes (FAILREG), Next job (NEWJOB), PorEscback, First, Back, Run, Next, Last, Nextalarm, Nextdeadlinemissed, "
         "no, time, request, reply, running, sets, areas, tasks, asked by")
 
 
