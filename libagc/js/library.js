@@ -303,7 +303,7 @@ export const OTHERWISE = new Map([
   [JOB_KINDS, "a job begins with novac or findvac"],
   [LISTING_KINDS, "a task begins with list"],
   [LEAVING_KINDS, "a job leaves by end or sleep"],
-  [STEP_KINDS, "before its last line a job asks for novac, findvac, prio, store, list or phase"],
+  [STEP_KINDS, "before its last line a job makes requests novac, findvac, prio, store, list or phase"],
 ]);
 
 export const DEVICES = ["timer", "key", "radar"];

@@ -361,7 +361,7 @@ pub const LEAVING_KINDS: Kinds = Kinds {
 };
 pub const STEP_KINDS: Kinds = Kinds {
     names: &["novac", "findvac", "prio", "store", "list", "phase"],
-    otherwise: "before its last line a job asks for novac, findvac, prio, store, list or phase",
+    otherwise: "before its last line a job makes requests novac, findvac, prio, store, list or phase",
 };
 pub const LISTING_KINDS: Kinds = Kinds {
     names: &["list"],

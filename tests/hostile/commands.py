@@ -412,7 +412,7 @@ def played_on_a_terminal(hostile):
     except OSError:  # it has ended
         pass
     os.close(master)
-    row = "1         0         0         novac 20 02000 00005    job 1"
+    row = "1         0.00      0.00      novac 20 02000 00005    job 1"
     tables = "    running 1  sets 1/20 . . . . . .  areas . . . . .  tasks -"
     said = text.decode().replace("\r\n", "\n")
     greeting = "\nType a request, such as findvac 20 02000 00005, or help. Ctrl-D ends.\n> "
